@@ -6,8 +6,10 @@ Usage: scripts/walls.py
 1. A crate's proofs are its own: no crate cites the proofs of another crate of this repository, but of those at the bottom, whose
    definitions everything shares. What a crate above needs of any other crate is a public law of it.
 2. Work is counted where it is done: outside tests no code makes a counter of its own but that of the step counter, of the top call,
-   where a run makes one, which all calls below are lent, of the program that times the bubble pass and of the example of a library. No
-   import gives a counter or a matrix another name, by which a rule could miss it.
+   where a run makes one, which all calls below are lent, of the program that times the bubble pass, of the example of a library, and of
+   the calls that UNLENT lists. The signature of such a call has no place for a counter: it makes one, and hands it to the call beside it
+   that counts. It is lent none, and nothing that is lent one calls it. No import gives a counter or a matrix another name, by which a
+   rule could miss it.
 3. Reducing a row looks at no more nodes than its steps count: outside tests no code of the crates that reduce a row in place names
    one of the calls that go over a whole arena without a step, but for the reducer's `tree`.
 4. Reducing a row takes no memory: outside tests no code of these crates or of the arena takes an allocator out of a vector, and a function
@@ -63,6 +65,8 @@ SHARED_PROOFS = {"column_order", "plain_text", "text_parts", "row_model", "pair_
 COUNTERS = {"step_count", "bubble_bench", "order_example"}
 # The functions of the top call that make the counter of a run.
 RUN_COUNTER = {"run", "run_from"}
+# The public calls whose signature has no place for a counter, by their crates: each with the function that makes a counter of its blank.
+UNLENT = {"bound_tree": ("is_complete", "is_complete_by"), "verdict_check": ("check", "check_by")}
 STEPPED = ["bubble_pass", "full_pass", "templates_p", "templates_q", "row_reduce"]
 WITHOUT_MEMORY = ["pq_arena"] + STEPPED
 WHOLE_TREE = ("crates/row_reduce/src/reducer.rt", "tree")
@@ -115,6 +119,7 @@ TOP = os.path.join("crates", "pq_cli", "src", "top.rt")
 CITED = re.compile(r"Rattle\.([a-z0-9_]+)\.proofs\b|\b([a-z0-9_]+)::proofs::")
 COUNTER = re.compile(r"\b(Blank|Brand)\b|\bSteps\b.*::new\b|^::new\b")
 RENAMED = re.compile(r"\b(?:Matrix|Blank|Brand|Steps) as \w+")
+LENT = re.compile(r"\bsteps: &mut Steps\b")
 MADE = re.compile(r"\b(Blank|Steps)(?:::<[^>]*>)?::new\(")
 FUNCTION = re.compile(r"\bfn (\w+)")
 WALK = re.compile(r"\b(to_tree|is_one_tree|has_two_each)\b")
@@ -291,13 +296,33 @@ def own_counters(names):
             found = FUNCTION.search(line)
             function = found[1] if found else function
             is_of_run = place.partition(":")[0] == TOP and (function in RUN_COUNTER or line.startswith("use "))
-            if COUNTER.search(line) and not is_of_run:
+            is_unlent = crate in UNLENT and (function in UNLENT[crate] or line.startswith("use "))
+            if COUNTER.search(line) and not is_of_run and not is_unlent:
                 yield f"{place}: makes a step counter: {line}"
             if RENAMED.search(line):
                 yield f"{place}: gives another name: {line}"
     made = [found for place, line in code("pq_cli") if place.partition(":")[0] == TOP for found in MADE.findall(line)]
     if made != ["Blank", "Steps"]:
         yield f"{TOP}: a run makes one blank and of it one counter, and not {made}"
+    for crate, makers in UNLENT.items():
+        made = [found for _, line in code(crate) for found in MADE.findall(line)]
+        if made != ["Blank", "Steps"]:
+            yield f"crates/{crate}: its call without a counter makes one blank and of it one counter, and not {made}"
+
+
+def lent_to_unlent():
+    """Where a call that makes a counter of its own is lent one, or is called by what is lent one."""
+    for crate, makers in UNLENT.items():
+        call = re.compile(rf"(?<![\w.]){makers[0]}\(")
+        for other in [crate, *(name for name, below in build.stands_on().items() if crate in below)]:
+            for name, lines in functions(other):
+                if not any(LENT.search(line) for _, line in lines):
+                    continue
+                if other == crate and name in makers:
+                    yield f"{lines[0][0]}: {name} makes a counter, and is lent one"
+                for place, line in lines[1:]:
+                    if call.search(line):
+                        yield f"{place}: {name} is lent a counter, and calls {makers[0]}, which makes one"
 
 
 def uncounted_walks():
@@ -770,7 +795,7 @@ def names_with_two_meanings():
 def main():
     names = crates()
     failed = 0
-    rules = [foreign_proofs(names), own_counters(names), uncounted_walks(), hidden_memory(), idle_functions(), itertools.chain(unknown_contracts(names), untold(names)),
+    rules = [foreign_proofs(names), itertools.chain(own_counters(names), lent_to_unlent()), uncounted_walks(), hidden_memory(), idle_functions(), itertools.chain(unknown_contracts(names), untold(names)),
              upward_edges(), names_with_two_meanings(), uncounted_reads(), uncounted_loops(), stray_searches(), solver_reads(), misread_loops(), shared_names(), unlisted_walks(), heard_sinks()]
     for broken in rules:
         found = list(broken)

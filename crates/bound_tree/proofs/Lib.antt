@@ -12,3 +12,4 @@ pub mod Loops
 pub mod Push
 pub mod Passing
 pub mod Turned
+pub mod Looks

@@ -6,6 +6,7 @@ ghost use Rattle.bound_tree.specs.Sides.{IsOpenFrom, turned_stretch};
 
 use crate::stretch::Stretch;
 use open_gaps::OpenGaps;
+use step_count::{Ledger, Steps};
 
 /// The side of an order from which its positions are counted.
 #[derive(Clone, Copy, Debug, PartialEq, Eq)]
@@ -17,12 +18,14 @@ pub enum Side {
 }
 
 /// Whether the gap between the positions `q` and `q + 1` is open for the column at the position `p`. Positions count
-/// from 0 from the side.
-pub fn is_open(gaps: &OpenGaps, side: Side, q: u32, p: u32) -> bool
+/// from 0 from the side. One step is counted for the look.
+pub fn is_open<L: Ledger>(gaps: &OpenGaps, side: Side, q: u32, p: u32, steps: &mut Steps<L>) -> bool
     requires { (q + 1 < length gaps.now.order) × (p < length gaps.now.order) }
-    ensures { (rows : List (List ℕ)) → AreGaps rows gaps.now.order gaps.now.gaps
+    ensures opens { (rows : List (List ℕ)) → AreGaps rows gaps.now.order gaps.now.gaps
         → IsTrue result ↔ IsOpenFrom side rows gaps.now.order q p }
+    ensures ticks { steps.new ≡ steps.old + 1 }
 {
+    steps.tick();
     match side {
         Side::Left => gaps.is_open(q, p),
         Side::Right => gaps.is_open(gaps.columns() - 2 - q, gaps.columns() - 1 - p),

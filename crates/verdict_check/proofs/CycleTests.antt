@@ -1,14 +1,27 @@
 -- The tests of a no, one after another.
-use Rattle.std.proofs.Common.{◌≡◌, ℕ, List, ◌++◌, length, map, Option, Some, None, subst}
+use Rattle.std.proofs.Common.{◌≡◌, ◌↔◌, ℕ, ◌+◌, ◌<◌, Bool, List, ◌++◌, length, map, get_or, Option, Some, None, IsTrue, sym, subst}
 use Rattle.std.specs.Prelude.{option_map}
 use Rattle.row_model.specs.declared.graph.Line.{Line}
 use Rattle.row_model.specs.Rows.{RowList}
 use Rattle.verdict_check.specs.Tests.{numbers, no_tests}
-use Rattle.verdict_check.specs.NoTests.{PassesLength, PassesPair, PassesRepeat, PassesJoin, PassesNo}
+use Rattle.row_model.specs.declared.graph.Pair.{Pair}
+use Rattle.row_model.specs.Graph.{JoinedBy}
+use Rattle.verdict_check.specs.NoTests.{pair_after, PassesLength, PassesPair, PassesRepeat, PassesJoin, PassesNo}
 use Rattle.verdict_check.specs.Found.{IsLeastFailing, Finds}
 use Rattle.verdict_check.specs.declared.outcome.Reason.{Reason}
 use Rattle.verdict_check.specs.declared.outcome.Reason.TheVariants as reason
+use Rattle.verdict_check.proofs.Lines.{line_has, has_line}
 use Rattle.verdict_check.proofs.First.{finds_here, finds_next, finds_after, finds_part, finds_each}
+
+-- one more line joins its pair to the next, or does not
+pub joined_here : (m : RowList) (lines : List Line) (i : ℕ) (d : Line) (next : Pair) (b : Bool) → i < length lines → ((other : Pair) → next ≡ pair_after lines (i + 1) other) →
+    IsTrue b ↔ JoinedBy m.columns m.rows (get_or lines i d).pair next (get_or lines i d).why → IsTrue b ↔ PassesJoin m lines (i + 1)
+joined_here m lines i d next b l e h =
+    let P : Line → Type 0 = λ line. JoinedBy m.columns m.rows line.pair (pair_after lines (i + 1) line.pair) line.why in
+    let at = e (get_or lines i d).pair in (
+      λ yes. line_has lines i d P l (subst (λ v. JoinedBy m.columns m.rows (get_or lines i d).pair v (get_or lines i d).why) at (h.0 yes)),
+      λ joins. h.1 (subst (λ v. JoinedBy m.columns m.rows (get_or lines i d).pair v (get_or lines i d).why) (sym at) (has_line lines i d P l joins)),
+    )
 
 module _ (m : RowList) (lines : List Line) where
   -- the number of lines fails

@@ -37,3 +37,4 @@ pub mod Together
 pub mod CoreTests
 pub mod RowTests
 pub mod ChainLaws
+pub mod StepSums

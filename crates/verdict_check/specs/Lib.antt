@@ -12,3 +12,5 @@ pub mod Gaps
 pub mod Complete
 pub mod Core
 pub mod Chains
+pub mod Steps
+pub mod Checks

@@ -1,5 +1,5 @@
 // The tests of a no, on the lines of its cycle.
-ghost use Rattle.std.specs.Prelude.{◌↔◌, ◌≡◌, ◌+◌, ◌<◌, length, IsTrue, IfOk};
+ghost use Rattle.std.specs.Prelude.{◌↔◌, ◌≡◌, ◌+◌, ◌*◌, ◌<◌, ◌≤◌, length, IsTrue, IfOk};
 ghost use Rattle.row_model.specs.declared.graph.Pair.{Pair};
 ghost use Rattle.text_parts.specs.Grammar.{Fits32};
 ghost use Rattle.verdict_check.specs.Tests.{no_tests};
@@ -8,17 +8,25 @@ ghost use Rattle.verdict_check.specs.Found.{IsLeastFailing, Finds};
 
 use crate::outcome::Reason;
 use crate::repeats::first_repeat;
-use row_model::{Line, Matrix, NoMemory, Pair, is_pair, joined_by};
+use row_model::{CountedRows, Line, Matrix, NoMemory, Pair, is_pair};
 use std::alloc::Global;
+use step_count::{Ledger, Steps};
 
-/// The first test that the lines fail as an odd cycle of the matrix.
+/// The first test that the lines fail as an odd cycle of the matrix. Each look at a row is a step, and a line takes at
+/// most three.
 ///
 /// # Errors
 ///
 /// `NoMemory`.
-pub fn cycle_fault(alloc: Global, m: &Matrix, lines: &[Line]) -> Result<Option<Reason>, NoMemory>
+pub fn cycle_fault<L: Ledger>(
+    alloc: Global,
+    m: &Matrix,
+    lines: &[Line],
+    steps: &mut Steps<L>,
+) -> Result<Option<Reason>, NoMemory>
     requires { Fits32 (length lines.now) }
-    ensures { IfOk result (Finds (PassesNo m.now lines.now) (no_tests (length lines.now))) }
+    ensures finds { IfOk result (Finds (PassesNo m.now lines.now) (no_tests (length lines.now))) }
+    ensures ticks { steps.new ≤ steps.old + 3 * length lines.now }
 {
     if !is_odd_length(lines) {
         return Ok(Some(Reason::Length(lines.len() as u32)));
@@ -29,7 +37,7 @@ pub fn cycle_fault(alloc: Global, m: &Matrix, lines: &[Line]) -> Result<Option<R
     if let Some(i) = first_repeat(alloc, m.columns(), lines)? {
         return Ok(Some(Reason::Repeat(i)));
     }
-    if let Some(i) = first_unjoined(m, lines) {
+    if let Some(i) = first_unjoined(&CountedRows::new(m), lines, steps) {
         return Ok(Some(Reason::Join(i)));
     }
     Ok(None)
@@ -57,12 +65,13 @@ pub fn first_bad_pair(c: u32, lines: &[Line]) -> Option<u32>
 
 // The first line, from 1, whose reason does not join its pair to that of the next line, the
 // last line's to that of the first.
-fn first_unjoined(m: &Matrix, lines: &[Line]) -> Option<u32>
+fn first_unjoined<L: Ledger>(m: &CountedRows, lines: &[Line], steps: &mut Steps<L>) -> Option<u32>
     requires { Fits32 (length lines.now) }
-    ensures { IsLeastFailing (PassesJoin m.now lines.now) (length lines.now) result }
+    ensures least { IsLeastFailing (PassesJoin m.now lines.now) (length lines.now) result }
+    ensures ticks { steps.new ≤ steps.old + 3 * length lines.now }
 {
     for (i, line) in lines.iter().enumerate() {
-        if !joined_by(m, line.pair, next_pair(lines, i), line.why) {
+        if !m.joined_counted(line.pair, next_pair(lines, i), line.why, steps) {
             return Some(i as u32 + 1);
         }
     }

@@ -4,7 +4,7 @@
 //! the tree stands, and where they part at deeper nodes than the leaves at the two ends part from those outside, or at
 //! a Q-node at least as deep. So one walk over the tree serves all rows, and each row costs a walk over its columns.
 
-ghost use Rattle.std.specs.Prelude.{◌≡◌, ◌↔◌, ◌≤◌, ◌<◌, ◌+◌, ◌^◌, ◌++◌, ℕ, length, map, IfOk, OnOk, IsTrue, EachIndex};
+ghost use Rattle.std.specs.Prelude.{◌≡◌, ◌↔◌, ◌≤◌, ◌<◌, ◌+◌, ◌-◌, ◌*◌, ◌^◌, ◌++◌, ℕ, length, map, IfOk, OnOk, IsTrue, EachIndex};
 ghost use Rattle.pq_tree.specs.Outline.{Outline, leaves, leaves_of};
 ghost use Rattle.pq_tree.specs.Proper.{outline_of, forest, HasArities, HaveArities};
 ghost use Rattle.pq_tree.specs.PqTree.{column_count, outline};
@@ -12,9 +12,11 @@ ghost use Rattle.row_model.specs.Rows.{IsRow};
 ghost use Rattle.verdict_check.specs.Gaps.{gaps, gaps_of, depth, LiesWithin, AreWithin, AreGaps, gap_at};
 ghost use Rattle.verdict_check.specs.YesTests.{AllKeep};
 
+use crate::row_steps::count_row;
 use pq_tree::{PqTree, Tree};
 use row_model::{COLUMN_BOUND, NoMemory, Span, positions, span_of};
 use std::alloc::Global;
+use step_count::{Ledger, Steps};
 
 /// Where two neighbouring leaves part: the depth of the node, whose root has depth 1, and its kind.
 #[derive(Clone, Copy)]
@@ -74,36 +76,46 @@ impl Gaps {
     /// Whether every frontier of the tree keeps the row: in none of them a column that the row misses stands
     /// between two that it has.
     ///
-    /// Takes time in the length of the row, and no memory.
-    pub fn holds(&self, row: &[u32]) -> bool
+    /// Takes at most two steps for each column of the row and one more, and no memory.
+    pub fn holds<L: Ledger>(&self, row: &[u32], steps: &mut Steps<L>) -> bool
         requires tree { (t : Outline) × AreGaps t self.now }
         requires row { IsRow (length self.now.positions.items) row.now }
-        ensures { (t : Outline) → AreGaps t self.now → (IsTrue result ↔ AllKeep t row.now) }
+        ensures holds { (t : Outline) → AreGaps t self.now → (IsTrue result ↔ AllKeep t row.now) }
+        ensures ticks { steps.new ≤ steps.old + 1 + 2 * length row.now }
     {
+        count_row(row, steps);
         match span_of(&self.positions, row) {
             None => true,
             Some(Span { first, last }) => {
                 (last - first) as usize + 1 == row.len()
-                    && are_within(&self.gaps, first as usize, last as usize)
+                    && are_within(&self.gaps, first as usize, last as usize, steps)
             }
         }
     }
 }
 
 /// Whether the gaps from `first` to before `last` lie within the gap before them and within the gap after them.
-fn are_within(gaps: &[LeafGap], first: usize, last: usize) -> bool
+fn are_within<L: Ledger>(gaps: &[LeafGap], first: usize, last: usize, steps: &mut Steps<L>) -> bool
     requires { (1 ≤ first) × (first ≤ last) × (last < length gaps.now) }
-    ensures { IsTrue result ↔ AreWithin gaps.now first last }
+    ensures within { IsTrue result ↔ AreWithin gaps.now first last }
+    ensures ticks { steps.new ≤ steps.old + (last - first) }
 {
     let outer = gaps[first - 1].depth().max(gaps[last].depth());
-    all_within(&gaps[first..last], outer)
+    all_within(&gaps[first..last], outer, steps)
 }
 
 /// Whether all these gaps lie deeper than this, or are at a Q-node at least as deep.
-fn all_within(gaps: &[LeafGap], outer: u32) -> bool
-    ensures { IsTrue result ↔ EachIndex gaps.now (λ i. LiesWithin outer (gap_at gaps.now i)) }
+fn all_within<L: Ledger>(gaps: &[LeafGap], outer: u32, steps: &mut Steps<L>) -> bool
+    ensures within { IsTrue result ↔ EachIndex gaps.now (λ i. LiesWithin outer (gap_at gaps.now i)) }
+    ensures ticks { steps.new ≤ steps.old + length gaps.now }
 {
-    gaps.iter().all(|gap| gap.lies_within(outer))
+    for gap in gaps {
+        steps.tick();
+        if !gap.lies_within(outer) {
+            return false;
+        }
+    }
+    true
 }
 
 /// Appends the gap before each leaf of the tree, which lies at this depth. The gap before its first leaf is `first`.

@@ -45,12 +45,14 @@
 //! no because a closed walk of odd length in the incompatibility graph leaves no valid order (McConnell, 2004).
 #![tactic(auto)]
 
-ghost use Rattle.std.specs.Prelude.{◌≡◌, ◌↔◌, IfOk};
+ghost use Rattle.std.specs.Prelude.{◌≡◌, ◌↔◌, ◌+◌, ◌<◌, ◌≤◌, IfOk};
 ghost use Rattle.verdict_text.specs.Grammar.{IsVerdict};
 ghost use Rattle.verdict_text.specs.Value.{verdict_value};
 ghost use Rattle.instance_model.specs.Instance.{IsInstance};
 ghost use Rattle.instance_model.specs.Value.{instance_value};
 ghost use Rattle.verdict_check.specs.Accepted.{IsAccepted, FailsFirst};
+ghost use Rattle.verdict_check.specs.Checks.{IsCheckOf};
+ghost use Rattle.verdict_check.specs.Steps.{verdict_steps};
 ghost use Rattle.verdict_check.specs.Truth.{IsTrueVerdict};
 ghost use Rattle.verdict_check.specs.Laws.{TrueLaw, YesLaw, NoLaw};
 ghost use Rattle.verdict_check.specs.Exact.{IsLinear, IsYesFor, TrueYesLaw, CompleteLaw};
@@ -70,6 +72,7 @@ mod intervals;
 mod judge;
 mod outcome;
 mod repeats;
+mod row_steps;
 mod side;
 mod unit;
 
@@ -84,6 +87,7 @@ use judge::first_failing;
 pub use outcome::{Checked, Reason};
 pub use row_model::NoMemory;
 use std::alloc::Global;
+use step_count::{Blank, Brand, Ledger, Steps};
 use tied_law::tied_law;
 pub use unit::{UnitChecked, check_unit};
 use verdict_text::Verdict;
@@ -104,11 +108,54 @@ pub fn check(alloc: Global, instance: &Instance, v: &Verdict) -> Result<Checked,
     ensures exact { IfOk result (λ checked. IsLinear (instance_value instance.now) → IsYesFor (instance_value instance.now) (verdict_value v.now)
         → (checked ≡ Valid) ↔ IsTrueVerdict (instance_value instance.now) (verdict_value v.now)) }
 {
+    check_by::<Brand>(alloc, instance, v, Blank::new(1))
+}
+
+// The same, with a counter that begins at the blank. Nobody looks at its count.
+fn check_by<L: Ledger>(
+    alloc: Global,
+    instance: &Instance,
+    v: &Verdict,
+    blank: Blank,
+) -> Result<Checked, NoMemory>
+    requires name { blank.name ≡ L.name }
+    requires parts { blank.parts ≡ L.parts }
+    requires some { 0 < blank.parts }
+    requires instance { IsInstance (instance_value instance.now) }
+    requires verdict { IsVerdict (verdict_value v.now) }
+    ensures { IfOk result (IsCheckOf (instance_value instance.now) (verdict_value v.now)) }
+{
+    let mut steps = Steps::<L>::new(blank);
+    check_counted(alloc, instance, v, &mut steps)
+}
+
+/// The same as [`check`], on a counter that is lent: each look at a derived row, at a gap between leaves of a tree and
+/// for a line of a cycle is a step.
+///
+/// Of a side with r derived rows that have f ones, a yes takes at most 3(r + f) steps for its order and its tree by each
+/// row. In version 2 it takes at most f + 2c² more for its tree by all rows, c being the number of columns. A no takes at
+/// most three steps for each line. What makes the derived rows, reads an order or a tree, or compares intervals, places
+/// and contigs counts none.
+///
+/// # Errors
+///
+/// `NoMemory`, as of [`check`].
+pub fn check_counted<L: Ledger>(
+    alloc: Global,
+    instance: &Instance,
+    v: &Verdict,
+    steps: &mut Steps<L>,
+) -> Result<Checked, NoMemory>
+    requires instance { IsInstance (instance_value instance.now) }
+    requires verdict { IsVerdict (verdict_value v.now) }
+    ensures judged { IfOk result (IsCheckOf (instance_value instance.now) (verdict_value v.now)) }
+    ensures ticks { steps.new ≤ steps.old + verdict_steps (instance_value instance.now) (verdict_value v.now) }
+{
     true_law();
     exact_laws();
     // An instance is what its type says.
     let _kind = instance.kind();
-    match first_failing(alloc, instance, v)? {
+    match first_failing(alloc, instance, v, steps)? {
         None => Ok(Checked::Valid),
         Some(reason) => Ok(Checked::Invalid(reason)),
     }

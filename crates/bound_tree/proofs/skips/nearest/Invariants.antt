@@ -1,10 +1,10 @@
-use Rattle.std.proofs.Common.{◌≡◌, ℕ, ◌<◌, ◌≤◌, List, length}
+use Rattle.std.proofs.Common.{◌≡◌, ℕ, ◌+◌, ◌*◌, ◌<◌, ◌≤◌, List, length}
 use Rattle.open_gaps.specs.Gaps.{AreGaps}
 use Rattle.bound_tree.specs.Sides.{IsPassed, GoesDown, SkipsOnly}
 use Rattle.bound_tree.proofs.skips.nearest.Given as goal
 
 abbrev pub invariant-loop-side : goal.invariant-loop-side
-invariant-loop-side l = record {
+invariant-loop-side g l = record {
   long : length l.before ≡ length l.gaps.order;
   down : GoesDown l.before;
   range : l.p ≤ l.from;
@@ -12,7 +12,8 @@ invariant-loop-side l = record {
       (p : ℕ) → l.p < p → p ≤ l.from → IsPassed l.side rows l.gaps.order l.at p;
   skips : (rows : List (List ℕ)) → AreGaps rows l.gaps.order l.gaps.gaps → SkipsOnly (IsPassed l.side rows l.gaps.order l.at) l.fn.before →
       SkipsOnly (IsPassed l.side rows l.gaps.order l.at) l.before;
+  ticks : l.steps + 2 * l.p ≤ l.fn.steps + 2 * l.from;
 }
 
 abbrev pub decreases-loop-side : goal.decreases-loop-side
-decreases-loop-side l = l.p
+decreases-loop-side g l = l.p

@@ -4,7 +4,7 @@ use Rattle.bound_tree.proofs.Passing.{shorter_skips}
 use Rattle.bound_tree.proofs.skips.step.Goals as goal
 
 pub returns-then-is_passed-clause-skips : goal.returns-then-is_passed-clause-skips
-returns-then-is_passed-clause-skips c =
+returns-then-is_passed-clause-skips g c =
     λ rows are.
     let q : ℕ = slice_index c.args.before.now c.args.p in
     shorter_skips c.args.before.now c.args.p q (omega (arith, c.requires.table.0, c.requires.range)) refl (IsPassed c.args.side rows c.args.gaps.now.order c.args.at)

@@ -1,27 +1,32 @@
-use Rattle.std.proofs.Common.{Some, None}
+use Rattle.std.proofs.Common.{Some, None, length, subst}
 use Rattle.std.proofs.lemmas.Bool.{both_ways}
+use Rattle.row_model.specs.Rows.{RowList}
+use Rattle.verdict_check.specs.Found.{IsLeastFailing}
+use Rattle.verdict_check.specs.NoTests.{PassesJoin}
 use Rattle.verdict_check.proofs.CycleTests.{length_fails, pair_fails, repeat_fails, joins_tested}
 use Rattle.verdict_check.proofs.cycle.cycle_fault.Goals as goal
 
-pub returns-then-not-is_odd_length : goal.returns-then-not-is_odd_length
-returns-then-not-is_odd_length c =
+pub returns-then-not-is_odd_length-clause-finds : goal.returns-then-not-is_odd_length-clause-finds
+returns-then-not-is_odd_length-clause-finds g c =
     length_fails c.args.m.now c.args.lines.now (λ h. both_ways c.is_odd_length.result c.if-not-is_odd_length.true (c.is_odd_length.ensures.1 h))
 
-pub returns-in-Some : goal.returns-in-Some
-returns-in-Some c =
+pub returns-in-Some-clause-finds : goal.returns-in-Some-clause-finds
+returns-in-Some-clause-finds g c =
     pair_fails c.args.m.now c.args.lines.now c.columns.result c.in-Some.i c.columns.ensures.columns (c.is_odd_length.ensures.0 c.if-not-is_odd_length.false) c.in-Some.ensures
 
-pub returns-in-Some-2 : goal.returns-in-Some-2
-returns-in-Some-2 c =
+pub returns-in-Some-2-clause-finds : goal.returns-in-Some-2-clause-finds
+returns-in-Some-2-clause-finds g c =
     repeat_fails c.args.m.now c.args.lines.now c.columns.result c.in-Some-2.i c.in_ok-i.field-0 c.columns.ensures.columns (c.is_odd_length.ensures.0 c.if-not-is_odd_length.false) c.in_default.ensures
     c.in-Some-2.is c.in_ok-i.ensures
 
-pub returns-in-Some-first_unjoined : goal.returns-in-Some-first_unjoined
-returns-in-Some-first_unjoined c =
+pub returns-in-Some-first_unjoined-clause-finds : goal.returns-in-Some-first_unjoined-clause-finds
+returns-in-Some-first_unjoined-clause-finds g c =
     joins_tested c.args.m.now c.args.lines.now c.columns.result c.in_ok-i.field-0 (Some c.in-Some-first_unjoined.i) c.columns.ensures.columns
-    (c.is_odd_length.ensures.0 c.if-not-is_odd_length.false) c.in_default.ensures c.in_default-2.is c.in_ok-i.ensures c.in-Some-first_unjoined.ensures
+    (c.is_odd_length.ensures.0 c.if-not-is_odd_length.false) c.in_default.ensures c.in_default-2.is c.in_ok-i.ensures
+    (subst (λ (m : RowList). IsLeastFailing (PassesJoin m c.args.lines.now) (length c.args.lines.now) (Some c.in-Some-first_unjoined.i)) c.new.ensures c.in-Some-first_unjoined.ensures.least)
 
-pub returns : goal.returns
-returns c =
+pub returns-clause-finds : goal.returns-clause-finds
+returns-clause-finds g c =
     joins_tested c.args.m.now c.args.lines.now c.columns.result c.in_ok-i.field-0 None c.columns.ensures.columns
-    (c.is_odd_length.ensures.0 c.if-not-is_odd_length.false) c.in_default.ensures c.in_default-2.is c.in_ok-i.ensures c.in_default-first_unjoined.ensures
+    (c.is_odd_length.ensures.0 c.if-not-is_odd_length.false) c.in_default.ensures c.in_default-2.is c.in_ok-i.ensures
+    (subst (λ (m : RowList). IsLeastFailing (PassesJoin m c.args.lines.now) (length c.args.lines.now) None) c.new.ensures c.in_default-first_unjoined.ensures.least)

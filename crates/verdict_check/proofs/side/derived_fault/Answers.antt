@@ -10,38 +10,38 @@ use Rattle.verdict_check.proofs.Sides.{side_tree}
 use Rattle.verdict_check.proofs.SideTests.{order_fails, row_fails, rows_pass_ok, kept_by_all, proper_columns}
 use Rattle.verdict_check.proofs.side.derived_fault.Goals as goal
 
-pub returns-then-not-branch : goal.returns-then-not-branch
-returns-then-not-branch c =
-    let tells = c.in_ok-is_textbook_order.ensures c.args.side c.requires.side c.requires.derived in
+pub returns-then-not-branch-clause-finds : goal.returns-then-not-branch-clause-finds
+returns-then-not-branch-clause-finds g c =
+    let tells = c.in_ok-is_textbook_order.ensures.textbook c.args.side c.requires.side c.requires.derived in
     order_fails c.args.version (instance_value c.args.instance.now) (yes_value c.args.yes.now) c.args.side c.order.result.now c.order.ensures
     (λ h. both_ways c.in_ok-is_textbook_order.field-0 c.if-not-branch.true (tells.1 h))
 
 pub first_broken_row-requires : goal.first_broken_row-requires
-first_broken_row-requires c =
+first_broken_row-requires g c =
     proper_columns _ _ (outline c.tree-tree.result.now) c.tree-tree.result.now.proper
     (side_tree (instance_value c.args.instance.now) (yes_value c.args.yes.now) c.args.side c.args.derived.now (outline c.tree-tree.result.now) c.requires.side c.requires.derived c.requires.sides c.tree-tree.ensures)
 
-pub returns-in-Some : goal.returns-in-Some
-returns-in-Some c =
-    let tells = c.in_ok-is_textbook_order.ensures c.args.side c.requires.side c.requires.derived in
+pub returns-in-Some-clause-finds : goal.returns-in-Some-clause-finds
+returns-in-Some-clause-finds g c =
+    let tells = c.in_ok-is_textbook_order.ensures.textbook c.args.side c.requires.side c.requires.derived in
     row_fails c.args.version (instance_value c.args.instance.now) (yes_value c.args.yes.now) c.args.side c.args.derived.now c.order.result.now (outline c.tree-tree.result.now) c.in-Some.k c.requires.derived
     c.order.ensures c.tree-tree.ensures (tells.0 c.if-not-branch.false)
-    (subst (IsLeastFailing (λ k. AllKeep (outline c.tree-tree.result.now) (row_at c.args.derived.now.rows k)) (length c.args.derived.now.rows)) c.in-Some.is c.in_ok-k.ensures)
+    (subst (IsLeastFailing (λ k. AllKeep (outline c.tree-tree.result.now) (row_at c.args.derived.now.rows k)) (length c.args.derived.now.rows)) c.in-Some.is c.in_ok-k.ensures.least)
 
-pub returns-in-None : goal.returns-in-None
-returns-in-None c =
-    let tells = c.in_ok-is_textbook_order.ensures c.args.side c.requires.side c.requires.derived in
+pub returns-in-None-clause-finds : goal.returns-in-None-clause-finds
+returns-in-None-clause-finds g c =
+    let tells = c.in_ok-is_textbook_order.ensures.textbook c.args.side c.requires.side c.requires.derived in
     rows_pass_ok c.args.version (instance_value c.args.instance.now) (yes_value c.args.yes.now) c.args.side c.args.derived.now c.order.result.now (outline c.tree-tree.result.now) c.complete_fault.result c.requires.derived
     c.order.ensures c.tree-tree.ensures (tells.0 c.if-not-branch.false)
-    (subst (IsLeastFailing (λ k. AllKeep (outline c.tree-tree.result.now) (row_at c.args.derived.now.rows k)) (length c.args.derived.now.rows)) c.in-None.is c.in_ok-k.ensures)
-    c.complete_fault.ensures
+    (subst (IsLeastFailing (λ k. AllKeep (outline c.tree-tree.result.now) (row_at c.args.derived.now.rows k)) (length c.args.derived.now.rows)) c.in-None.is c.in_ok-k.ensures.least)
+    c.complete_fault.ensures.finds
 
 pub complete_fault-requires-clause-columns : goal.complete_fault-requires-clause-columns
-complete_fault-requires-clause-columns c =
+complete_fault-requires-clause-columns g c =
     proper_columns _ _ (outline c.tree-tree.result.now) c.tree-tree.result.now.proper
     (side_tree (instance_value c.args.instance.now) (yes_value c.args.yes.now) c.args.side c.args.derived.now (outline c.tree-tree.result.now) c.requires.side c.requires.derived c.requires.sides c.tree-tree.ensures)
 
 pub complete_fault-requires-clause-kept : goal.complete_fault-requires-clause-kept
-complete_fault-requires-clause-kept c =
+complete_fault-requires-clause-kept g c =
     kept_by_all (outline c.tree-tree.result.now) c.args.derived.now.rows
-    (subst (IsLeastFailing (λ k. AllKeep (outline c.tree-tree.result.now) (row_at c.args.derived.now.rows k)) (length c.args.derived.now.rows)) c.in-None.is c.in_ok-k.ensures)
+    (subst (IsLeastFailing (λ k. AllKeep (outline c.tree-tree.result.now) (row_at c.args.derived.now.rows k)) (length c.args.derived.now.rows)) c.in-None.is c.in_ok-k.ensures.least)

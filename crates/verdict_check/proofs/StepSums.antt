@@ -1,0 +1,22 @@
+-- Steps that add up over rows, and over the sides of a yes.
+use Rattle.std.proofs.Common.{◌≡◌, ◌∙◌, ℕ, suc, ◌+◌, ◌-◌, List, [], ◌∷◌, Some, length, take, sum_by, slice_get, sym, ap, arith}
+use Rattle.std.proofs.lemmas.List.Sums.{sum_by-append, sum_by-cons}
+use Rattle.row_model.proofs.Pushed.{take_next}
+use Rattle.verdict_check.specs.Tests.{numbers}
+
+-- the ones of one row more
+pub ones_with_row : (rows : List (List ℕ)) (k : ℕ) (row : List ℕ) → slice_get rows (k + 1 - 1) ≡ Some row →
+    sum_by length (take (k + 1) rows) ≡ sum_by length (take k rows) + length row
+ones_with_row rows k row found =
+    ap (λ (rs : List (List ℕ)). sum_by length rs) (sym (take_next rows k row found))
+    ∙ sum_by-append length (take k rows) (row ∷ [])
+    ∙ ap (λ n. sum_by length (take k rows) + n) (sum_by-cons length row [] ∙ omega arith)
+
+-- a sum over one number more
+pub sum_to_next : (f : ℕ → ℕ) (n : ℕ) → sum_by f (numbers (n + 1)) ≡ sum_by f (numbers n) + f (n + 1)
+sum_to_next f n =
+    let more : n + 1 ≡ suc n = omega arith in
+    ap (λ j. sum_by f (numbers j)) more
+    ∙ sum_by-append f (numbers n) (suc n ∷ [])
+    ∙ ap (λ m. sum_by f (numbers n) + m) (sum_by-cons f (suc n) [] ∙ omega arith)
+    ∙ ap (λ j. sum_by f (numbers n) + f j) (sym more)
