@@ -25,7 +25,8 @@ Usage: scripts/walls.py
 9. A search reads what is counted: outside tests the crates that search name a matrix only in the functions that UNCOUNTED lists. All
    others are handed its rows as `CountedRows` of row_model, of which each look at a row is a step. Of the listed ones those that HANDING
    lists do nothing with the matrix but hand it on as that, or ask how many columns it has. `CountedRows` reads its matrix in the
-   functions of VIEWS alone, and hands it out nowhere. The names `m` and `steps` stand for counted rows and their counter alone.
+   functions of VIEWS alone, and hands it out nowhere. The names `m` and `steps` stand for counted rows and their counter alone. Nor are
+   gaps looked at without a step: bound_tree asks them in the function of GAP_LOOKS alone, which counts one.
 10. A turn of a search costs a step: each loop of a function of these crates ticks, or makes a counted read, or calls a function of which
    a clause named `costs` says that it costs one, on every turn: neither behind a `continue` nor where a condition decides. UNTICKED of
    scripts/loops.py lists the loops that need not, and with them what else goes over a list: calls, a `vec!` of many items, two lists that are compared. It says
@@ -67,6 +68,8 @@ COUNTERS = {"step_count", "bubble_bench", "order_example"}
 RUN_COUNTER = {"run", "run_from"}
 # The public calls whose signature has no place for a counter, by their crates: each with the function that makes a counter of its blank.
 UNLENT = {"bound_tree": ("is_complete", "is_complete_by"), "verdict_check": ("check", "check_by")}
+# The crate that looks at gaps on a counter, its one function that asks them, and the calls that tell of them.
+GAP_LOOKS = ("bound_tree", "is_open", re.compile(r"\.(?:is_open|is_at_open_gap|before|behind)\("))
 STEPPED = ["bubble_pass", "full_pass", "templates_p", "templates_q", "row_reduce"]
 WITHOUT_MEMORY = ["pq_arena"] + STEPPED
 WHOLE_TREE = ("crates/row_reduce/src/reducer.rt", "tree")
@@ -664,6 +667,15 @@ def solver_reads():
                 yield f"{place}: {name} does more with a matrix than to hand it on: {line.strip()}"
 
 
+def uncounted_looks():
+    """Where gaps are looked at outside the function that counts a step for it."""
+    crate, counting, asks = GAP_LOOKS
+    for name, lines in functions(crate):
+        for place, line in lines:
+            if asks.search(line) and name != counting:
+                yield f"{place}: {name} looks at a gap without a step: {line.strip()}"
+
+
 def stray_searches():
     """Where the judge names a search, or a crate before the solver stands on one behind it."""
     for place, line in code(JUDGE):
@@ -796,7 +808,7 @@ def main():
     names = crates()
     failed = 0
     rules = [foreign_proofs(names), itertools.chain(own_counters(names), lent_to_unlent()), uncounted_walks(), hidden_memory(), idle_functions(), itertools.chain(unknown_contracts(names), untold(names)),
-             upward_edges(), names_with_two_meanings(), uncounted_reads(), uncounted_loops(), stray_searches(), solver_reads(), misread_loops(), shared_names(), unlisted_walks(), heard_sinks()]
+             upward_edges(), names_with_two_meanings(), itertools.chain(uncounted_reads(), uncounted_looks()), uncounted_loops(), stray_searches(), solver_reads(), misread_loops(), shared_names(), unlisted_walks(), heard_sinks()]
     for broken in rules:
         found = list(broken)
         failed += bool(found)
