@@ -154,3 +154,18 @@ SAMPLES = [
 ]
 # The lists of these, and the fields that are lists.
 SAMPLE_LISTS = ({"order", "before"}, {"columns"})
+# Lines, and what each names by the path of a trait or of the kit.
+PATH_SAMPLES = [
+    ("let last = Iterator::last(columns.iter());", ["Iterator::last"]),
+    ("let same = PartialEq::eq(&order, &before);", ["PartialEq::eq"]),
+    ("let copy = Clone::clone(&order)?;", ["Clone::clone"]),
+    ("let most = cmp::max(&order, &before);", ["cmp::max"]),
+    ("let most = std::cmp::max(&order, &before);", ["cmp::max"]),
+    ("let copy = Labels::clone(&labels)?;", ["Labels::clone"]),
+    ("let last = <Rows as Iterator>::last(rows);", ["<Rows as Iterator>::last"]),
+    ("let count = Iterator::count;", ["Iterator::count"]),
+    ("let filled = Vec::from_elem(alloc, 0, count)?;", ["Vec::from_elem"]),
+    ("let columns = Vec::new(alloc);", []),
+    ("let tree = Tree::leaf(column);", []),
+    ("Shape::Leaf(column) => None,", []),
+]

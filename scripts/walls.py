@@ -45,6 +45,8 @@ Usage: scripts/walls.py
    gives a tree out calls itself.
 16. No status depends on the sink of errors: the functions of the top call name it in one line each, as TOLD has it. Three hand it on at their
    end, and `tell` to `report`, which answers nothing.
+17. What goes over a list or takes memory has no other name there: the crates that search, or that reduce a row in place, call no function of a
+   trait or of the kit by its path, but for those of KIT_PATHS, and import of the kit what KIT_IMPORTS has. This reading is tried by samples too.
 
 What stands behind `#[cfg(test)]` is a test, also in a file of its own; a file without that is none, whatever its name.
 
@@ -58,7 +60,7 @@ import re
 import sys
 
 import build
-from loops import HEADS, IN_PLACE, RECALLED, SAMPLE_LISTS, SAMPLES, UNTICKED
+from loops import HEADS, IN_PLACE, PATH_SAMPLES, RECALLED, SAMPLE_LISTS, SAMPLES, UNTICKED
 
 HOME = os.path.dirname(os.path.dirname(os.path.abspath(__file__)))
 # The crates whose definitions everything shares; docs/DECISIONS.md says why they offer their lemmas too.
@@ -127,6 +129,9 @@ MADE = re.compile(r"\b(Blank|Steps)(?:::<[^>]*>)?::new\(")
 FUNCTION = re.compile(r"\bfn (\w+)")
 WALK = re.compile(r"\b(to_tree|is_one_tree|has_two_each)\b")
 ALLOCATOR = re.compile(r"\ballocator\(")
+# a text or a character, and the parameter by which a function is handed an allocator
+TEXT = re.compile(r"""b?"(?:[^"\\]|\\.)*"|b?'(?:[^'\\]|\\.[^']*)'""")
+HANDED_ALLOCATOR = re.compile(r"(?:^\s*|[(,] ?)_?alloc: ")
 # what takes memory of a vector's own; the climber's call of this name puts a node into a queue that has room for all that comes to it
 TAKES = re.compile(r"(?:\.|Vec::)(?:push\w*|insert\w*|append|(?:try_)?reserve\w*|shrink_to\w*|resize|resize_with|extend|extend_from_slice|extend_from_within|split_off|to_vec|to_owned|collect|clone)\b|\bvec!")
 QUEUED = re.compile(r"bubble_pass/src/climber\.rt:\d+ .*\bself\.push\(|bubble_pass/src/\w+\.rt:\d+ .*\bclimber\.push\(")
@@ -140,6 +145,12 @@ HANDED_OUT = re.compile(r"->.*\bMatrix\b")
 # the matrix `m`, and how it is handed over
 OF_MATRIX = re.compile(r"\bm\b")
 PARAMETER = re.compile(r"\bm: &Matrix,")
+# a function that is named by the path of its type or trait; what a type may have by a derive; and what of the kit, or
+# made by a macro, may be named so
+PATH = re.compile(r"(?<![\w.:])(?:\w+::)*(\w+)::(?:<[^()]*>::)?([a-z]\w*)\b(?!::)")
+DERIVED = {"clone", "clone_from", "eq", "ne", "cmp", "partial_cmp", "lt", "le", "gt", "ge", "max", "min", "clamp", "hash", "to_owned", "into_iter"}
+KIT_PATHS = {"Vec::new", "Vec::with_capacity", "u64::from", "Lines::from_vec"}
+KIT_IMPORTS = {"use std::alloc::Global;", "use std::marker::Model;"}
 # a loop with a block of its own, and the name that goes over it; and a call that goes over a list
 BLOCK = re.compile(r"(?:^|[=(,{>|;]|\breturn|\bbreak|\bif|\bmatch)\s*(?:'\w+: )?(?:for \W*(\w+)|while|loop)\b")
 OVER_LIST = re.compile(
@@ -266,19 +277,24 @@ def sources(crate):
             yield path
 
 
+def bare(line):
+    """A line without its comment, and without what stands in its texts."""
+    return TEXT.sub('""', line).split("//")[0].rstrip()
+
+
 def code(crate):
-    """The lines of a crate's sources that are no part of its tests, without comments, with where each stands."""
+    """The lines of a crate's sources that are no part of its tests, without comments and texts, with where each stands."""
     for path in sources(crate):
         for place, line in outside_tests(path):
-            yield place, line.split("//")[0].strip()
+            yield place, bare(line).strip()
 
 
 def functions(crate):
-    """The functions of a crate outside its tests: the name of each, and its lines without comments, with where each stands."""
+    """The functions of a crate outside its tests: the name of each, and its lines without comments and texts, with where each stands."""
     for path in sources(crate):
         name, indent, lines = None, "", []
         for place, line in outside_tests(path):
-            line = line.split("//")[0].rstrip()
+            line = bare(line)
             head = FUNCTION_HEAD.match(line)
             if head and name is None:
                 name, indent, lines = head[2], head[1], []
@@ -348,11 +364,17 @@ def hidden_memory():
     for crate in sorted({*WITHOUT_MEMORY, *PROMISED}):
         without = with_callees(crate, PROMISED.get(crate, set()))
         for name, lines in functions(crate):
-            if crate in PROMISED and name not in without or crate not in PROMISED and "alloc" in WORD.findall(" ".join(line for _, line in lines)):
+            if crate in PROMISED and name not in without or crate not in PROMISED and is_handed_allocator(lines):
                 continue
             for place, line in lines:
                 if TAKES.search(line) and not QUEUED.search(f"{place} {line}"):
                     yield f"{place}: {name} takes memory, and is handed no allocator: {line.strip()}"
+
+
+def is_handed_allocator(lines):
+    """Whether a function has an allocator among its parameters."""
+    behind = {place for place, _ in body(lines)}
+    return any(HANDED_ALLOCATOR.search(line) for place, line in lines if place not in behind)
 
 
 def with_callees(crate, names):
@@ -426,15 +448,15 @@ def of_lists(lines, makers, nested):
 
 
 def list_fields(crate):
-    """The fields of a crate's structs that are lists, but for those of a name that another field has which is none."""
-    fields, others, is_inside = set(), set(), False
+    """The names of the fields of a crate's structs that are lists."""
+    fields, is_inside = set(), False
     for path in sources(crate):
         for _, line in outside_tests(path):
             is_inside = re.match(r"(?:pub(?:\([^)]*\))? )?struct \w+.*\{$", line) is not None or is_inside and not line.startswith("}")
             found = FIELD.match(line) if is_inside else None
-            if found:
-                (fields if OF_LIST.search(line) else others).add(found[1])
-    return fields - others
+            if found and OF_LIST.search(line):
+                fields.add(found[1])
+    return fields
 
 
 def compares_lists(line, names, fields):
@@ -560,6 +582,28 @@ def unlisted_turns(crate, entries, sure, with_value):
         others = list(free_turns(body(lines), {over}, *known)) if over else []
         if len(others) != max(listed - 1, 0) * bool(over) or len(turns) != listed:
             yield f"{place}: of what may cost no step in {name} {listed} are listed, and there are {len(turns)}: {[line.strip() for _, line in others or turns]}"
+
+
+def foreign_paths(line, types):
+    """What a line names by the path of something else than a type of the repository: a function of a trait or of the kit."""
+    if line.startswith(("#[", "ghost ", "use ", "pub use ")):
+        return []
+    found = [f"{owner}::{name}" for owner, name in PATH.findall(line) if owner not in types or name in DERIVED]
+    return [path for path in found if path not in KIT_PATHS] + re.findall(r"<[^<>()]+>::[a-z]\w*|^use std::.*", line)
+
+
+def foreign_calls():
+    """Where a crate that searches, or that reduces a row in place, calls the kit by a path, which might go over a list or take memory."""
+    types = {"Self", "self", "crate", "super"} | {found for crate in crates() for _, line in code(crate) for found in re.findall(r"\b(?:struct|enum) (\w+)", line)}
+    for crate in dict.fromkeys([*SEARCHING, *WITHOUT_MEMORY]):
+        for place, line in code(crate):
+            if line.startswith("use std::") and line not in KIT_IMPORTS:
+                yield f"{place}: imports what might go over a list: {line}"
+            for path in foreign_paths(line, types):
+                yield f"{place}: calls {path} by its path: {line}"
+    for sample, paths in PATH_SAMPLES:
+        if foreign_paths(sample, {"Tree", "Labels"}) != paths:
+            yield f"scripts/walls.py: misreads a path: {sample!r}"
 
 
 def uncounted_loops():
@@ -807,8 +851,10 @@ def names_with_two_meanings():
 def main():
     names = crates()
     failed = 0
-    rules = [foreign_proofs(names), itertools.chain(own_counters(names), lent_to_unlent()), uncounted_walks(), hidden_memory(), idle_functions(), itertools.chain(unknown_contracts(names), untold(names)),
-             upward_edges(), names_with_two_meanings(), itertools.chain(uncounted_reads(), uncounted_looks()), uncounted_loops(), stray_searches(), solver_reads(), misread_loops(), shared_names(), unlisted_walks(), heard_sinks()]
+    rules = [foreign_proofs(names), itertools.chain(own_counters(names), lent_to_unlent()), uncounted_walks(), hidden_memory(), idle_functions(),
+             itertools.chain(unknown_contracts(names), untold(names)), upward_edges(), names_with_two_meanings(),
+             itertools.chain(uncounted_reads(), uncounted_looks()), uncounted_loops(), stray_searches(), solver_reads(), misread_loops(), shared_names(),
+             unlisted_walks(), heard_sinks(), foreign_calls()]
     for broken in rules:
         found = list(broken)
         failed += bool(found)
