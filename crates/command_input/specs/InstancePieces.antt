@@ -1,6 +1,6 @@
 -- The instance in the bytes of a file of which a part was read.
-use Rattle.std.specs.Prelude.{ℕ, List}
-use Rattle.row_model.specs.declared.kind.Kind.TheVariants.{Matrix, Rows}
+use Rattle.std.specs.Prelude.{ℕ, List, Bool, true, false}
+use Rattle.row_model.specs.declared.kind.Kind.TheVariants.{Matrix, Rows, Table, Circular, Convex, Doubly, Proper, Robinson, Clones}
 use Rattle.row_model.specs.declared.refusal.Read.{Read}
 use Rattle.matrix_read.specs.DigitRows.{dense_with}
 use Rattle.matrix_read.specs.NamedRows.{rows_with}
@@ -20,6 +20,18 @@ instance_with (reader.Rows rows) text = map_read (plain Rows) (rows_with rows te
 instance_with (reader.Convex graph) text = map_read convex (bigraph_then graph text)
 instance_with (reader.Doubly graph) text = map_read doubly (bigraph_then graph text)
 instance_with (reader.Proper graph) text = map_read proper (graph_then graph text)
+
+-- whether files of a kind are read in pieces; the others are read whole
+abbrev pub comes_in_pieces : Kind → Bool
+comes_in_pieces Matrix = true
+comes_in_pieces Rows = true
+comes_in_pieces Table = false
+comes_in_pieces Circular = true
+comes_in_pieces Convex = true
+comes_in_pieces Doubly = true
+comes_in_pieces Proper = true
+comes_in_pieces Robinson = false
+comes_in_pieces Clones = false
 
 -- an instance that is read of some bytes is one of the kind, within the limits of files
 abbrev pub HeldLaw : Type 0

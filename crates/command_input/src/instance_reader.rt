@@ -1,9 +1,9 @@
 // The instance in the bytes of a file that come in pieces.
-ghost use Rattle.std.specs.Prelude.{◌≡◌, ◌≤◌, ℕ, List, ◌++◌, drop, length, IfSome, IfOk};
+ghost use Rattle.std.specs.Prelude.{◌≡◌, ◌≤◌, ℕ, List, ◌++◌, drop, length, is_some, IfSome, IfOk};
 ghost use Rattle.row_model.specs.declared.TheConstants.{MAX_FILE_BYTES};
 ghost use Rattle.instance_model.specs.Value.{instance_value};
 ghost use Rattle.command_input.specs.Instances.{instance_of, map_read};
-ghost use Rattle.command_input.specs.InstancePieces.{instance_with};
+ghost use Rattle.command_input.specs.InstancePieces.{instance_with, comes_in_pieces};
 
 use crate::NoMemory;
 use crate::instance::map_read;
@@ -32,9 +32,11 @@ pub enum InstanceReader {
 }
 
 impl InstanceReader {
-    /// A reader for files of this kind that has read nothing. There is none for a kind whose files are read whole.
+    /// A reader for files of this kind that has read nothing. There is none for the kinds whose files are read whole:
+    /// `table`, `robinson` and `clones`.
     pub fn new(kind: Kind) -> Option<Self>
-        ensures { IfSome result (λ reader. (bytes : List ℕ) → length bytes ≤ MAX_FILE_BYTES
+        ensures kinds { is_some result ≡ comes_in_pieces kind }
+        ensures reads { IfSome result (λ reader. (bytes : List ℕ) → length bytes ≤ MAX_FILE_BYTES
             → instance_with reader bytes ≡ instance_of kind bytes) }
     {
         match kind {
