@@ -194,9 +194,6 @@ impl Arena {
     /// Puts the children of `child` in its place, its end `first` (0 for `ends[0]`, 1 for `ends[1]`) towards `near`,
     /// and gives `child` back. It is a Q-node with two children or more and a child of a Q-node; `near` is one of its
     /// neighbours, or none where it is an end child.
-    ///
-    /// Besides `child` only its neighbours, its two end children and, where it is an end child, the node above it are
-    /// written.
     pub fn splice<L: Ledger>(
         &mut self,
         child: NodeId,

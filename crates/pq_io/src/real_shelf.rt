@@ -63,7 +63,7 @@ impl<R: Files + Input + Drop> Shelf for RealShelf<R> {
     ghost has_chosen = { λ shelf. shelf.has_chosen };
 
     /// `-` chooses standard input, any other name the file of that name, in place of what was chosen before. The count
-    /// rises by one at each failure. Where the opening lacks memory, the answer is `NoMemory`.
+    /// rises by one at each failure.
     fn choose(&mut self, _alloc: Global, name: &str) -> Result<(), ChooseError>
         ensures chosen { OnOk result (IsTrue self.new.has_chosen) }
         ensures none_chosen { OnErr result (self.new.has_chosen ≡ false) }
