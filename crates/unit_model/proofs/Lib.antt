@@ -7,7 +7,6 @@ pub mod UnitLaws
 pub mod OneRule
 pub mod FirstLemmas
 pub mod LengthLemmas
-pub mod Chains
 pub mod TextLaws
 pub mod WriteLaws
 pub mod FitLemmas

@@ -12,7 +12,7 @@ use Rattle.row_model.specs.declared.TheConstants.{MAX_COLUMNS}
 use Rattle.unit_model.specs.Text.{UnitValue, max_end, IsEnd, IsUnit, left_line, left_lines, unit_head, unit_text}
 use Rattle.unit_model.specs.Reading.{left_at, lefts_at, head_at, unit_of, with_first}
 use Rattle.unit_model.specs.Laws.{OneUnitLaw, TextLengthLaw}
-use Rattle.unit_model.proofs.Chains.{after_number, after_word, at_number, at_word}
+use Rattle.plain_text.proofs.Chains.{after_number, after_word, at_number, at_word}
 
 small : MAX_COLUMNS < 2 ^ 64
 small = omega arith

@@ -1,5 +1,7 @@
 // The lines of a text, by their places.
-use text_lines::{FilledLine, LineSpan, next_filled_line, next_line, without_mark};
+use text_lines::{
+    FilledLine, LineSpan, next_filled_line, next_line, unmarked_part, whole_len, without_mark,
+};
 
 #[test]
 fn lines_end_at_feeds_and_at_the_end(rt: HostRuntime) {
@@ -25,4 +27,13 @@ fn lines_end_at_feeds_and_at_the_end(rt: HostRuntime) {
         span: span(4, 5, 6),
     };
     assert_eq!(rt; next_filled_line(text, 3, 1), Some(filled));
+}
+
+#[test]
+fn a_part_has_the_lines_up_to_its_last_feed(rt: HostRuntime) {
+    assert_eq!(rt; whole_len(b"a\r\n\nb\r"), Some(4));
+    assert_eq!(rt; whole_len(b"b\r"), None);
+    let marked: &[u8] = b"\xEF\xBB\xBFa";
+    assert_eq!(rt; unmarked_part(false, marked), &marked[3..]);
+    assert_eq!(rt; unmarked_part(true, marked), marked);
 }
