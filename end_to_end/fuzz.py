@@ -131,7 +131,7 @@ def with_copies(draw, line, most):
 
 
 def lengthened(draw, kind, content):
-    """A file of the same instance with about as many bytes as one window to three have."""
+    """A file of the same instance, mostly with about as many bytes as one window to three have."""
     wanted = draw.randint(WINDOW, 3 * WINDOW)
     head, *others = content.splitlines() or [b""]
     if kind in ("matrix", "circular"):
@@ -139,7 +139,7 @@ def lengthened(draw, kind, content):
     elif kind == "rows":
         found = [head] + [with_copies(draw, line, draw.randint(1, 2 * wanted // len(others))) for line in others]
     else:
-        found = [head] + draw.choices([*others, b""], k=wanted // 4)
+        found = [head] + [line + b" " * draw.choice([0, 0, 0, 40]) for line in draw.choices([*others, b""], k=wanted // 4)]
     end = draw.choice([b"\n", b"\r\n"])
     return draw.choice([b"", b"\xef\xbb\xbf"]) + end.join(found) + draw.choice([b"", end])
 

@@ -27,6 +27,7 @@ from program import HOME, PROGRAM
 
 COLUMNS = 2_048
 MOST_ROWS = 131_072
+MOST_ITEMS = 256
 # The columns of the rows that are all alike: with the line's end 128 bytes, so that as many rows as there may be fill a file.
 ALIKE = 127
 # Bounds in seconds are for a processor on which this loop of Python takes so long; a slower one has more time.
@@ -50,7 +51,8 @@ MOST_TIMES = 12
 BASE_BYTES = 16 << 20
 # What docs/EVIDENCE.md allows beside the bytes of files that are full of small values.
 CROWDED_BYTES = 256 << 20
-# What a run may take over a file that is read through a window and leaves next to nothing: less than the file.
+# What a run may take over a file that is read through a window and leaves next to nothing, which is less than the file; and over the balls of
+# points far apart, which would have 32 MiB.
 WINDOWED_BYTES = 12 << 20
 COST = os.path.join(HOME, "end_to_end", "cost.py")
 MATRIX = b"110\n011\n"
@@ -367,6 +369,13 @@ def windowed_files():
         yield kind, head + b"1 2\n" + b"\n" * (LIMIT - 16)
 
 
+def far_points():
+    """A table of distances of points farther and farther apart. Each has about as many balls as there are points: eight million ones, of which
+    none is kept."""
+    points = [place * place for place in range(MOST_ITEMS)]
+    return b"%d\n" % MOST_ITEMS + b"".join(b" ".join(b"%d" % abs(one - other) for other in points) + b"\n" for one in points)
+
+
 def long_lines():
     """Each kind whose file is read through a window, with two files near the limit: one long line with blanks at its end, and the same with line
     feeds among them."""
@@ -388,7 +397,7 @@ def long_line_problem(kind, line, lines):
 def window_problem(kind, content):
     """What is wrong with what a run keeps of such a file, or None."""
     given, cost = measured(["solve", kind], content)
-    print(f"{kind} through a window: {cost.peak} bytes at the peak for {len(content)}", flush=True)
+    print(f"{kind}, of which little is kept: {cost.peak} bytes at the peak for {len(content)}", flush=True)
     return difference(given, (0, None, b"")) or (None if cost.peak <= WINDOWED_BYTES else f"{cost.peak} bytes at the peak")
 
 
@@ -430,6 +439,7 @@ def hostile_problems():
         yield f"hostile: {name}", difference(given, wanted) or cost.problem(len(content), beside)
     for kind, content in windowed_files():
         yield f"hostile: {kind} through a window", window_problem(kind, content)
+    yield "hostile: robinson of points far apart", window_problem("robinson", far_points())
     for kind, line, lines in long_lines():
         yield f"hostile: {kind} of one long line", long_line_problem(kind, line, lines)
     yield "hostile: the orders of a core of the most rows", many_orders_problem()

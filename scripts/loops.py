@@ -169,3 +169,22 @@ PATH_SAMPLES = [
     ("let tree = Tree::leaf(column);", []),
     ("Shape::Leaf(column) => None,", []),
 ]
+# Lines, and whether the reading of text does not know what each has.
+UNREAD_SAMPLES = [
+    ("const fn far(path: &[Line]) -> u32 {", True),
+    ("unsafe fn far(path: &[Line]) -> u32 {", True),
+    ("macro_rules! each {", True),
+    ("use row_model::positions as places;", True),
+    ("Matrix, positions as places,", True),
+    ("type Path = Vec<Line>;", True),
+    ("fn is_same<T: PartialEq>(one: &T, other: &T) -> bool {", True),
+    ("fn is_same<T>(one: &T, other: &T) -> bool where T: Eq {", True),
+    ("let far = far::<u32>(path);", True),
+    ("CountedMatrix::push_row(&mut rows, row)?;", True),
+    ("let first = path.split(is_gap).next();", True),
+    ("let marked = is_marked(\"//\");", True),
+    ("pub const LEAST: u32 = 1;", False),
+    ("fn far<L: Ledger>(path: &[Line], steps: &mut Steps<L>) -> u32 {", False),
+    ("let wide = count as usize;", False),
+    ("let (first, others) = path.split_first()?;", False),
+]

@@ -46,7 +46,8 @@ Usage: scripts/walls.py
 16. No status depends on the sink of errors: the functions of the top call name it in one line each, as TOLD has it. Three hand it on at their
    end, and `tell` to `report`, which answers nothing.
 17. What goes over a list or takes memory has no other name there: the crates that search, or that reduce a row in place, call no function of a
-   trait or of the kit by its path, but for those of KIT_PATHS, and import of the kit what KIT_IMPORTS has. This reading is tried by samples too.
+   trait or of the kit by its path, but for those of KIT_PATHS, and import of the kit what KIT_IMPORTS has. Nor have they what this reading of text
+   does not know (UNREAD). It is tried by samples too.
 
 What stands behind `#[cfg(test)]` is a test, also in a file of its own; a file without that is none, whatever its name.
 
@@ -60,7 +61,7 @@ import re
 import sys
 
 import build
-from loops import HEADS, IN_PLACE, PATH_SAMPLES, RECALLED, SAMPLE_LISTS, SAMPLES, UNTICKED
+from loops import HEADS, IN_PLACE, PATH_SAMPLES, RECALLED, SAMPLE_LISTS, SAMPLES, UNREAD_SAMPLES, UNTICKED
 
 HOME = os.path.dirname(os.path.dirname(os.path.abspath(__file__)))
 # The crates whose definitions everything shares; docs/DECISIONS.md says why they offer their lemmas too.
@@ -71,7 +72,7 @@ RUN_COUNTER = {"run", "run_from"}
 # The public calls whose signature has no place for a counter, by their crates: each with the function that makes a counter of its blank.
 UNLENT = {"bound_tree": ("is_complete", "is_complete_by"), "verdict_check": ("check", "check_by")}
 # The crate that looks at gaps on a counter, its one function that asks them, and the calls that tell of them.
-GAP_LOOKS = ("bound_tree", "is_open", re.compile(r"\.(?:is_open|is_at_open_gap|before|behind)\("))
+GAP_LOOKS = ("bound_tree", "is_open", re.compile(r"(?:\.(?:is_open|is_at_open_gap|before|behind)|OpenGaps::(?!new\b)\w+)\("))
 STEPPED = ["bubble_pass", "full_pass", "templates_p", "templates_q", "row_reduce"]
 WITHOUT_MEMORY = ["pq_arena"] + STEPPED
 WHOLE_TREE = ("crates/row_reduce/src/reducer.rt", "tree")
@@ -151,8 +152,24 @@ PATH = re.compile(r"(?<![\w.:])(?:\w+::)*(\w+)::(?:<[^()]*>::)?([a-z]\w*)\b(?!::
 DERIVED = {"clone", "clone_from", "eq", "ne", "cmp", "partial_cmp", "lt", "le", "gt", "ge", "max", "min", "clamp", "hash", "to_owned", "into_iter"}
 KIT_PATHS = {"Vec::new", "Vec::with_capacity", "u64::from", "Lines::from_vec"}
 KIT_IMPORTS = {"use std::alloc::Global;", "use std::marker::Model;"}
+# What this reading of text does not know, so a crate that searches or reduces in place has none of it.
+UNREAD = {
+    "a function of a kind that is not read": re.compile(r"\b(?:const|unsafe|extern)\b.*\bfn \w"),
+    "a macro of its own": re.compile(r"\bmacro_rules!"),
+    "another name by an import": re.compile(r"^(?:pub(?:\([^)]*\))? )?use .*\bas \w|^[\w, ]*\b\w+ as \w+,"),
+    "another name of a type": re.compile(r"^(?:pub(?:\([^)]*\))? )?type \w"),
+    "a type parameter that is compared, copied or gone over": re.compile(
+        r"(?:[<,] ?|\bwhere |^)\w+: (?:\w+ \+ )*(?:PartialEq|Eq|PartialOrd|Ord|Clone|Hash|Copy|Iterator|IntoIterator|Fn\w*)\b"),
+    "a call with its types": re.compile(r"\b\w+::<[^()]*>\("),
+    "a method by its path": re.compile(r"::(?:push_row|keeps)\("),
+    "a part of a list by a test": re.compile(r"\.(?:r?split(?!_first|_last|_at|_off)\w*|chunk_by\w*)\("),
+    "a text": re.compile(r'"'),
+}
+IMPORTED = re.compile(r"(?:pub(?:\([^)]*\))? )?use (\w+)")
+OTHER_ALLOCATOR = re.compile(r"\b_?alloc: (?!Global\b)")
+OTHER_MATRIX = re.compile(r"\b(?!m\b|matrix\b|_matrix\b)\w+: &?(?:mut )?Matrix\b")
 # a loop with a block of its own, and the name that goes over it; and a call that goes over a list
-BLOCK = re.compile(r"(?:^|[=(,{>|;]|\breturn|\bbreak|\bif|\bmatch)\s*(?:'\w+: )?(?:for \W*(\w+)|while|loop)\b")
+BLOCK = re.compile(r"\b(?:while|loop)\b|(?<![\w>] )\bfor \W*(\w+)")
 OVER_LIST = re.compile(
     r"\.(?:any|all|r?find\w*|filter\w*|flat_map|map_while|take_while|skip_while|try_for_each|for_each|(?:try_)?r?fold|scan|r?position|contains|nth|count|sum"
     r"|product|(?:min|max)_by\w*|sort\w*|dedup\w*|reverse|retain\w*|fill\w*|rotate\w*|extend\w*|to_vec|to_owned|concat|copy_from_slice|clone_from\w*"
@@ -332,8 +349,9 @@ def own_counters(names):
 def lent_to_unlent():
     """Where a call that makes a counter of its own is lent one, or is called by what is lent one."""
     for crate, makers in UNLENT.items():
-        call = re.compile(rf"(?<![\w.]){makers[0]}\(")
         for other in [crate, *(name for name, below in build.stands_on().items() if crate in below)]:
+            call = re.compile(rf"(?<![\w.])(?:{'|'.join(sorted(with_callers(other, {makers[0]})))})\(")
+            yield from (f"{place}: gives {makers[0]} another name: {line}" for place, line in code(other) if re.search(rf"\b{makers[0]} as \w", line))
             for name, lines in functions(other):
                 if not any(LENT.search(line) for _, line in lines):
                     continue
@@ -589,18 +607,35 @@ def foreign_paths(line, types):
     if line.startswith(("#[", "ghost ", "use ", "pub use ")):
         return []
     found = [f"{owner}::{name}" for owner, name in PATH.findall(line) if owner not in types or name in DERIVED]
-    return [path for path in found if path not in KIT_PATHS] + re.findall(r"<[^<>()]+>::[a-z]\w*|^use std::.*", line)
+    return [path for path in found if path not in KIT_PATHS] + re.findall(r"<[^<>()]+>::[a-z]\w*", line)
+
+
+def unread_lines(crate):
+    """Where a crate has what the reading of its loops and of its memory does not know."""
+    known = {"crate", "super", "self", *crates()} | {found for _, line in code(crate) for found in re.findall(r"^(?:pub(?:\([^)]*\))? )?mod (\w+);", line)}
+    for path in sources(crate):
+        for place, line in outside_tests(path):
+            whole = line.split("//")[0].strip()
+            yield from (f"{place}: has {what}: {whole}" for what, found in UNREAD.items() if found.search(whole))
+            imported = IMPORTED.match(whole)
+            if imported and imported[1] not in known and whole not in KIT_IMPORTS:
+                yield f"{place}: imports what might go over a list: {whole}"
+            if crate in WITHOUT_MEMORY and OTHER_ALLOCATOR.search(whole):
+                yield f"{place}: calls something else an allocator: {whole}"
 
 
 def foreign_calls():
-    """Where a crate that searches, or that reduces a row in place, calls the kit by a path, which might go over a list or take memory."""
+    """Where a crate that searches, or that reduces a row in place, calls the kit by a path, which might go over a list or take memory, or has
+    what this reading does not know."""
     types = {"Self", "self", "crate", "super"} | {found for crate in crates() for _, line in code(crate) for found in re.findall(r"\b(?:struct|enum) (\w+)", line)}
     for crate in dict.fromkeys([*SEARCHING, *WITHOUT_MEMORY]):
+        yield from unread_lines(crate)
         for place, line in code(crate):
-            if line.startswith("use std::") and line not in KIT_IMPORTS:
-                yield f"{place}: imports what might go over a list: {line}"
             for path in foreign_paths(line, types):
                 yield f"{place}: calls {path} by its path: {line}"
+    for sample, is_unread in UNREAD_SAMPLES:
+        if any(found.search(sample) for found in UNREAD.values()) != is_unread:
+            yield f"scripts/walls.py: misreads what it does not know: {sample!r}"
     for sample, paths in PATH_SAMPLES:
         if foreign_paths(sample, {"Tree", "Labels"}) != paths:
             yield f"scripts/walls.py: misreads a path: {sample!r}"
@@ -705,6 +740,7 @@ def shared_names():
 
 def solver_reads():
     """Where the solver does more with a matrix than to ask for its sizes, change its last row, and hand it on."""
+    yield from (f"{place}: gives a matrix another name: {line}" for place, line in code(SOLVER) if OTHER_MATRIX.search(line))
     for name, lines in functions(SOLVER):
         for place, line in body(lines):
             if ITS_MATRIX.search(ASKED.sub("", line)):

@@ -74,9 +74,9 @@ pub fn take_rows<L: Ledger>(reducer: &mut Chosen, m: &Matrix, steps: &mut Steps<
     None
 }
 
-/// The odd cycle for a matrix of which the rows before row `k` were taken in turn and row `k` was refused: that which
-/// [`answer`](crate::answer) finds. No row is reduced once more: with c columns and f ones in the rows 1 to `k` the search
-/// takes at most 8c(f + 1) steps.
+/// An odd cycle for a matrix of which the rows before row `k` were taken in turn and row `k` was refused, with what
+/// [`answer`](crate::answer) says of its cycle. No row is reduced once more: with what the rows took, the search stays
+/// within the steps of an answer.
 ///
 /// # Errors
 ///

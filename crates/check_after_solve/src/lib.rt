@@ -1,7 +1,7 @@
 //! A check of what `solve` wrote, over files in memory: what one run of the top call writes, another believes.
 #![tactic(auto)]
 
-ghost use Rattle.std.specs.Prelude.{◌≡◌, IfOk, IfSome, IfNone};
+ghost use Rattle.std.specs.Prelude.{◌≡◌, ℕ, IfOk, IfSome, IfNone};
 ghost use Rattle.command_input.specs.Words.{kind_of};
 ghost use Rattle.check_after_solve.specs.Agreed.{IsSolvedAs, IsFoundAs, IsEndOf};
 ghost use Rattle.check_after_solve.specs.declared.Ended.TheVariants.{Unsolved};
@@ -27,8 +27,9 @@ pub enum Ended {
 ///
 /// No read fails. The first run may write `room` bytes, and the second writes to `out`. With status 0 or 1 the first
 /// wrote a reply whole. Then the second ends with 0 and wrote `valid`, or with 5, where `out` counts a fault, or with 6
-/// where memory is refused. Else the first ended with 3 on an instance that is refused, with 5 where there is too
-/// little room, or with 6; and with 2 where `kind` is no word of a kind.
+/// where memory is refused. Else the first ended with 3 on an instance that is refused, or with 5 or 6, of which the
+/// contract names no cause; and with 2 where `kind` is no word of a kind. Then there is no second run, and `out` is as
+/// it was.
 ///
 /// # Errors
 ///
@@ -44,6 +45,7 @@ pub fn solve_then_check<P: Sink>(
         IsEndOf k instance.now (P.written out.old) (P.written out.new) (P.faults out.old)
         (P.faults out.new) ended)) }
     ensures no_kind { IfOk result (λ ended. IfNone (kind_of kind.now) (ended ≡ Unsolved 2)) }
+    ensures unsolved { IfOk result (λ ended. (status : ℕ) → ended ≡ Unsolved status → out.new ≡ out.old) }
 {
     let (status, written) = solve(alloc, kind, instance, room)?;
     if status > 1 {

@@ -133,8 +133,8 @@ impl ArenaReducer {
     /// It ticks at most 256 times for each node that the row meets, and 256 times more. Where the row is taken, it
     /// ticks at most 252 times for each of these nodes at or below the smallest that holds the row, 252 times more, and
     /// four times for each column of the row. Both bounds are wide. The narrow ones are 36 for each node that the row
-    /// meets, and 6 more, or 38 for each at or below the smallest that holds it, and 8 more; and in both, 8 for each
-    /// column of the row.
+    /// meets, and 6 more; or, where the row is taken, 38 for each at or below the smallest that holds it, and 8 more. In
+    /// both there are 8 for each column of the row besides.
     ///
     /// All rows together are linear: 256 ticks are worth one unit of the tree's weight, the number of its Q-nodes and
     /// of the children of its P-nodes (Booth and Lueker, 1976). A row that is taken pays what it ticks beyond 1024
