@@ -1,5 +1,5 @@
 // Rows that are taken as they come, and not kept.
-ghost use Rattle.std.specs.Prelude.{◌≡◌, ◌≢◌, ◌+◌, ◌≤◌, ℕ, List, [], ◌++◌, length, IfOk};
+ghost use Rattle.std.specs.Prelude.{◌≡◌, ◌≢◌, ◌+◌, ◌*◌, ◌≤◌, ℕ, List, [], ◌++◌, length, take, sum_by, IfOk};
 ghost use Rattle.column_order.specs.Orders.{HasValidOrder};
 ghost use Rattle.c1p_solve.specs.Answers.{HasAllOrders, IsAnswer, IsInTurn};
 ghost use Rattle.c1p_solve.specs.Growing.{HasRefused, HasTaken, TakesRows};
@@ -75,8 +75,8 @@ pub fn take_rows<L: Ledger>(reducer: &mut Chosen, m: &Matrix, steps: &mut Steps<
 }
 
 /// An odd cycle for a matrix of which the rows before row `k` were taken in turn and row `k` was refused, with what
-/// [`answer`](crate::answer) says of its cycle. No row is reduced once more: with what the rows took, the search stays
-/// within the steps of an answer.
+/// [`answer`](crate::answer) says of its cycle. No row is reduced once more: with c columns and f ones in the rows 1 to
+/// `k` the search takes at most 8c(f + 1) steps. With what the rows took these are within the steps of an answer.
 ///
 /// # Errors
 ///
@@ -93,6 +93,7 @@ pub fn cycle_of_refused<L: Ledger>(
     ensures in_turn { IfOk result (λ cycle. IsInTurn m.now (Solved.No cycle)) }
     ensures total { (s : ℕ) → HasRefused m.now k reducer.now s steps.old → IsNoTotal m.now s steps.new }
     ensures most { (s : ℕ) → HasRefused m.now k reducer.now s steps.old → steps.new ≤ s + answer_steps m.now }
+    ensures ticks { steps.new ≤ steps.old + 8 * m.now.columns * (sum_by length (take k m.now.rows) + 1) }
 {
     conflict(alloc, reducer, m, k, steps)
 }
