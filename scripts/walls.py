@@ -26,7 +26,8 @@ Usage: scripts/walls.py
    others are handed its rows as `CountedRows` of row_model, of which each look at a row is a step. Of the listed ones those that HANDING
    lists do nothing with the matrix but hand it on as that, or ask how many columns it has. `CountedRows` reads its matrix in the
    functions of VIEWS alone, and hands it out nowhere. The names `m` and `steps` stand for counted rows and their counter alone. Nor are
-   gaps looked at without a step: bound_tree asks them in the function of GAP_LOOKS alone, which counts one.
+   gaps looked at without a step: bound_tree asks them in the function of GAP_LOOKS alone, which counts one. The judge looks at rows as often as
+   JUDGE_LOOKS says, in each of its functions; clauses say how many steps these count.
 10. A turn of a search costs a step: each loop of a function of these crates ticks, or makes a counted read, or calls a function of which
    a clause named `costs` says that it costs one, on every turn: neither behind a `continue` nor where a condition decides. UNTICKED of
    scripts/loops.py lists the loops that need not, and with them what else goes over a list: calls, a `vec!` of many items, two lists that are compared. It says
@@ -73,6 +74,11 @@ RUN_COUNTER = {"run", "run_from"}
 UNLENT = {"bound_tree": ("is_complete", "is_complete_by"), "verdict_check": ("check", "check_by")}
 # The crate that looks at gaps on a counter, its one function that asks them, and the calls that tell of them.
 GAP_LOOKS = ("bound_tree", "is_open", re.compile(r"(?:\.(?:is_open|is_at_open_gap|before|behind)|OpenGaps::(?!new\b)\w+)\("))
+# How often the functions of the judge look at a row, or have it looked at, beside the steps that they count for it; and the files of calls that
+# count none.
+JUDGE_LOOKS = {"is_textbook_order": 2, "first_broken_row": 1, "holds": 1, "count_rows": 1}
+JUDGE_ASKS = re.compile(r"(?:\.|\bMatrix::)(?:keeps|row|has|row_len|ones)\(|\b(?:span_of|is_kept|row_has)\(")
+UNCOUNTED_FILES = ("core_check.rt", "holds.rt", "unit.rt")
 STEPPED = ["bubble_pass", "full_pass", "templates_p", "templates_q", "row_reduce"]
 WITHOUT_MEMORY = ["pq_arena"] + STEPPED
 WHOLE_TREE = ("crates/row_reduce/src/reducer.rt", "tree")
@@ -754,6 +760,10 @@ def uncounted_looks():
         for place, line in lines:
             if asks.search(line) and name != counting:
                 yield f"{place}: {name} looks at a gap without a step: {line.strip()}"
+    for name, lines in functions(JUDGE):
+        looks = sum(len(JUDGE_ASKS.findall(line)) for _, line in body(lines))
+        if looks != JUDGE_LOOKS.get(name, 0) and not lines[0][0].partition(":")[0].endswith(UNCOUNTED_FILES):
+            yield f"{lines[0][0]}: {name} looks at rows {looks} times, and {JUDGE_LOOKS.get(name, 0)} are listed"
 
 
 def stray_searches():

@@ -82,6 +82,7 @@ impl Gaps {
         requires row { IsRow (length self.now.positions.items) row.now }
         ensures holds { (t : Outline) → AreGaps t self.now → (IsTrue result ↔ AllKeep t row.now) }
         ensures ticks { steps.new ≤ steps.old + 1 + 2 * length row.now }
+        ensures turns { steps.old + 1 + length row.now ≤ steps.new }
     {
         count_row(row, steps);
         match span_of(&self.positions, row) {
@@ -99,6 +100,8 @@ fn are_within<L: Ledger>(gaps: &[LeafGap], first: usize, last: usize, steps: &mu
     requires { (1 ≤ first) × (first ≤ last) × (last < length gaps.now) }
     ensures within { IsTrue result ↔ AreWithin gaps.now first last }
     ensures ticks { steps.new ≤ steps.old + (last - first) }
+    ensures turns { steps.old ≤ steps.new }
+    ensures each { IsTrue result → steps.old + (last - first) ≤ steps.new }
 {
     let outer = gaps[first - 1].depth().max(gaps[last].depth());
     all_within(&gaps[first..last], outer, steps)
@@ -108,6 +111,8 @@ fn are_within<L: Ledger>(gaps: &[LeafGap], first: usize, last: usize, steps: &mu
 fn all_within<L: Ledger>(gaps: &[LeafGap], outer: u32, steps: &mut Steps<L>) -> bool
     ensures within { IsTrue result ↔ EachIndex gaps.now (λ i. LiesWithin outer (gap_at gaps.now i)) }
     ensures ticks { steps.new ≤ steps.old + length gaps.now }
+    ensures turns { steps.old ≤ steps.new }
+    ensures each { IsTrue result → steps.old + length gaps.now ≤ steps.new }
 {
     for gap in gaps {
         steps.tick();

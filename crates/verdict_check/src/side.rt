@@ -137,6 +137,8 @@ fn is_textbook_order<L: Ledger>(
         derived.now ≡ derived_matrix (instance_value instance.now) side →
         IsTrue yes ↔ IsTextbookOrder (instance_value instance.now) side order.now) }
     ensures ticks { steps.new ≤ steps.old + (length derived.now.rows + sum_by length derived.now.rows) }
+    ensures turns { IfOk result (λ yes. IsTrue yes →
+        steps.old + (length derived.now.rows + sum_by length derived.now.rows) ≤ steps.new) }
 {
     // What the derived matrix says of the textbook orders, and rotations of circular ones.
     textbook_law();
