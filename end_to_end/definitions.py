@@ -18,6 +18,12 @@ def orders(count):
     return itertools.permutations(range(1, count + 1))
 
 
+@functools.cache
+def keeping(columns, row):
+    """All orders that keep a row."""
+    return frozenset(order for order in orders(columns) if keeps(order, row))
+
+
 def triples(order):
     """Any three columns of an order, from left to right."""
     return itertools.combinations(order, 3)
@@ -39,7 +45,10 @@ class Side:
 
 def valid_orders(columns, rows):
     """All orders that keep every row."""
-    return {order for order in orders(columns) if all(keeps(order, row) for row in rows)}
+    found = keeping(columns, frozenset())
+    for row in rows:
+        found &= keeping(columns, frozenset(row))
+    return found
 
 
 def matrix(columns, rows):

@@ -50,21 +50,25 @@ def text_of(content, limits):
 
 
 def lines_of(text):
-    """The lines of a text, each with its number."""
-    lines = text.split(b"\n")
-    if not lines[-1]:
-        lines.pop()
-    return enumerate((line.removesuffix(b"\r") for line in lines), 1)
+    """The lines of a text. What follows the last line feed is a line too, unless nothing does."""
+    if text and not text.endswith(b"\n"):
+        text += b"\n"
+    return text.replace(b"\r\n", b"\n").split(b"\n")[:-1]
+
+
+def without_blanks(line):
+    """The bytes of a line that are no blanks."""
+    return line.translate(None, b" \t")
 
 
 def words_of(line):
     """The words of a line."""
-    return [word for word in line.replace(b"\t", b" ").split(b" ") if word]
+    return list(filter(None, line.replace(b"\t", b" ").split(b" ")))
 
 
 def filled_lines(text):
     """The lines that are not blank, each with its number."""
-    return [(number, line) for number, line in lines_of(text) if words_of(line)]
+    return [(number, line) for number, line in enumerate(lines_of(text), 1) if without_blanks(line)]
 
 
 def number_of(word):
@@ -75,10 +79,10 @@ def number_of(word):
     return int(digits or b"0") if len(digits) <= 20 else MOST_WORD + 1
 
 
-def numbers_within(line, place, least, most):
-    """The numbers of a line, each from the least to the most: its words are judged from left to right."""
+def numbers_within(words, place, least, most):
+    """The numbers that the words of a line are, each from the least to the most: they are judged from left to right."""
     numbers = []
-    for word in words_of(line):
+    for word in words:
         number = number_of(word)
         if number is None:
             raise Refused(GRAMMAR, place)
@@ -106,6 +110,24 @@ def sizes_of(line, place, *limits):
     return sizes
 
 
+def sizes_and_lines(content, limits, *size_limits):
+    """The sizes on the first line of a graph that is not blank, one for each limit, and the lines behind it, each with its number."""
+    lines = lines_of(text_of(content, limits))
+    head = next((place for place, line in enumerate(lines, 1) if without_blanks(line)), None)
+    if head is None:
+        raise Refused(EMPTY, 0)
+    return sizes_of(lines[head - 1], head, *size_limits), first_lines(lines, head)
+
+
+def first_lines(lines, place):
+    """The lines behind a place that are not blank, each with its number, where it comes first. One that comes again has the same edge, and is
+    refused after the first."""
+    for line in dict.fromkeys(lines[place:]):
+        place = lines.index(line, place) + 1
+        if without_blanks(line):
+            yield place, line
+
+
 def edges_of(lines, left, right):
     """The edges on these lines, each with the number of its line."""
     for place, line in lines:
@@ -121,7 +143,7 @@ def read_dense(content, limits):
     for place, line in filled_lines(text_of(content, limits)):
         if len(rows) == limits.rows:
             raise Refused(LIMIT, place)
-        digits = b"".join(words_of(line))
+        digits = without_blanks(line)
         if digits.strip(b"01"):
             raise Refused(GRAMMAR, place)
         if columns is None:
@@ -137,23 +159,22 @@ def read_dense(content, limits):
 
 
 def rows_on(lines, first, columns, limits):
-    """The rows on these lines, that name their columns; the first of them stands on this line."""
+    """The rows on these lines, that name their columns; the first of them stands on this line. A word that comes again names the same column."""
     rows = []
-    for place, line in lines:
+    for place, line in enumerate(lines, first):
         if place - first == limits.rows:
             raise Refused(LIMIT, place)
-        rows.append(frozenset(numbers_within(line, place, 1, columns)))
+        rows.append(frozenset(numbers_within(dict.fromkeys(words_of(line)), place, 1, columns)))
     return rows
 
 
 def read_rows(content, limits):
     """A matrix as lines that name columns."""
     lines = lines_of(text_of(content, limits))
-    first = next(lines, None)
-    if first is None:
+    if not lines:
         raise Refused(EMPTY, 0)
-    (columns,) = sizes_of(first[1], 1, limits.columns)
-    return Matrix(columns, rows_on(lines, 2, columns, limits))
+    (columns,) = sizes_of(lines[0], 1, limits.columns)
+    return Matrix(columns, rows_on(lines[1:], 2, columns, limits))
 
 
 def read_further(content, columns, limits):
@@ -163,13 +184,9 @@ def read_further(content, columns, limits):
 
 def read_graph(content, limits):
     """A graph: its size, and its edges."""
-    filled = filled_lines(text_of(content, limits))
-    if not filled:
-        raise Refused(EMPTY, 0)
-    place, line = filled[0]
-    (vertices,) = sizes_of(line, place, limits.columns)
+    (vertices,), lines = sizes_and_lines(content, limits, limits.columns)
     neighbours = [set() for _ in range(vertices)]
-    for place, a, b in edges_of(filled[1:], vertices, vertices):
+    for place, a, b in edges_of(lines, vertices, vertices):
         if a == b:
             raise Refused(DISAGREES, place)
         neighbours[a - 1].add(b)
@@ -179,13 +196,9 @@ def read_graph(content, limits):
 
 def read_bigraph(content, left_limit, limits):
     """A bipartite graph: the neighbours of each vertex of the left side, and those of each of the right side."""
-    filled = filled_lines(text_of(content, limits))
-    if not filled:
-        raise Refused(EMPTY, 0)
-    place, line = filled[0]
-    left, right = sizes_of(line, place, left_limit, limits.columns)
+    (left, right), lines = sizes_and_lines(content, limits, left_limit, limits.columns)
     of_left, of_right = [set() for _ in range(left)], [set() for _ in range(right)]
-    for _, a, b in edges_of(filled[1:], left, right):
+    for _, a, b in edges_of(lines, left, right):
         of_left[a - 1].add(b)
         of_right[b - 1].add(a)
     return of_left, of_right
@@ -212,7 +225,7 @@ def read_distances(content, limits):
     for place, line in filled[1:]:
         if len(table) == items:
             raise Refused(COUNT, place)
-        row = numbers_within(line, place, 0, MOST_WORD)
+        row = numbers_within(words_of(line), place, 0, MOST_WORD)
         if len(row) != items:
             raise Refused(COUNT, place)
         item = len(table)

@@ -143,7 +143,9 @@ class Folder:
         self.names = [os.path.join(folder, name) for name in ("file", "second")]
 
     def write(self, number, content):
-        """Makes one of the two files anew."""
+        """Makes one of the two files anew. A file that is written over goes to the disk at once, which takes long."""
+        if os.path.exists(self.names[number]):
+            os.remove(self.names[number])
         with open(self.names[number], "wb") as stream:
             stream.write(content)
 
@@ -226,10 +228,10 @@ def answer_problem(folder, kind, content, limits):
     except Refused as refused:
         wanted = 3, f"pq: refused 1 {refused}\n".encode()
         return None if given == wanted else f"{given}, the page says {wanted}"
-    line = judgement(kind, instance, given[1], limits)
+    line, problem = judged(folder, kind, instance, given[1], limits)
     if given[0] not in (0, 1) or line != "valid":
         return f"{given}, which the page finds {line}"
-    return judged(folder, kind, instance, given[1], limits)[1] or judged(folder, kind, instance, flattened(given[1]), limits)[1]
+    return problem or judged(folder, kind, instance, flattened(given[1]), limits)[1]
 
 
 def file_problems(kind, contents, limits):

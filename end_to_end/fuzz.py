@@ -16,6 +16,7 @@ It prints how many runs of each part were drawn. The last line is `N passed, N f
 """
 
 import argparse
+import collections
 import concurrent.futures
 import itertools
 import os
@@ -32,7 +33,7 @@ import meetings
 import units
 from checker import read_instance
 from core_checker import judged as core_judged
-from definitions import orders, valid_orders
+from definitions import valid_orders
 from file_readers import Limits, Refused
 from listing import listed
 from program import HOME, Answering, run
@@ -96,7 +97,7 @@ def drawn_rows(draw, most):
 def file_of(kind, columns, rows):
     """The file of a matrix in one of the kinds that have the same rows."""
     content = all_kinds.dense(columns, rows)
-    return dict(forgeries.in_kinds("matrix", content))[kind]
+    return next(made for its_kind, made in forgeries.in_kinds("matrix", content) if its_kind == kind)
 
 
 def as_kind(kind, answered):
@@ -124,10 +125,15 @@ def with_blanks(draw, line, most):
     return b"".join(blank + bytes([digit]) for blank, digit in zip(blanks, line))
 
 
+def many(draw, items, count):
+    """So many of the items, each by a drawn byte, from 256 that are drawn of them."""
+    return list(map(draw.choices(items, k=256).__getitem__, draw.randbytes(count)))
+
+
 def with_copies(draw, line, most):
     """A line of columns in which some come again, of about so many bytes, or a blank line where it names none."""
     words = line.split()
-    return b" ".join(words + draw.choices(words, k=most // 2)) if words else b" " * most
+    return b" ".join(words + many(draw, words, most // 2)) if words else b" " * most
 
 
 def lengthened(draw, kind, content):
@@ -139,7 +145,8 @@ def lengthened(draw, kind, content):
     elif kind == "rows":
         found = [head] + [with_copies(draw, line, draw.randint(1, 2 * wanted // len(others))) for line in others]
     else:
-        found = [head] + [line + b" " * draw.choice([0, 0, 0, 40]) for line in draw.choices([*others, b""], k=wanted // 4)]
+        ends = [b"", b"", b"", b" " * 40]
+        found = [head] + many(draw, [line + end for line in [*others, b""] for end in ends], wanted // 14)
     end = draw.choice([b"\n", b"\r\n"])
     return draw.choice([b"", b"\xef\xbb\xbf"]) + end.join(found) + draw.choice([b"", end])
 
@@ -244,7 +251,7 @@ def unit(draw, _folder, _kind):
 def check_unit(draw, folder, _kind):
     """A unit model, and some texts that differ from it."""
     count, edges = drawn_graph(draw)
-    if not any(units.has_umbrella(order, set(edges)) for order in orders(count)):
+    if not units.is_proper(count, edges):
         edges = ()
     folder.write(0, units.content_of(count, edges))
     right = run(["unit", folder.names[0]]).stdout
@@ -326,14 +333,14 @@ def main(given):
     asked = words_of(given)
     if asked.library:
         Answering.library = Library(os.path.abspath(asked.library))
-    passed = failed = 0
+    drawn, failed = collections.Counter(), 0
     for name, problem in problems(asked.seed, asked.count, asked.parts or list(PARTS)):
-        if problem is None:
-            passed += 1
-        else:
+        drawn[name.split(" ", 1)[0]] += 1
+        if problem is not None:
             failed += 1
             print(f"FAILED {name}: {problem}")
-    print(f"{passed} passed, {failed} failed")
+    print(", ".join(f"{part} {count}" for part, count in drawn.items()))
+    print(f"{drawn.total() - failed} passed, {failed} failed")
     return 1 if failed else 0
 
 

@@ -3,6 +3,7 @@
 The wanted texts of the cases were written by hand.
 """
 
+import functools
 import itertools
 import re
 
@@ -127,6 +128,12 @@ def has_umbrella(order, edges):
                for u, v, w in itertools.combinations(order, 3))
 
 
+@functools.cache
+def is_proper(count, edges):
+    """Whether a graph has an umbrella order."""
+    return any(has_umbrella(order, set(edges)) for order in orders(count))
+
+
 def neighbours(count, edges):
     near = {vertex: set() for vertex in range(1, count + 1)}
     for u, v in edges:
@@ -177,7 +184,7 @@ def graph_problem(count, edges):
     """What is wrong with `unit` and `check-unit` on a graph, or None."""
     content = content_of(count, edges)
     solved, printed = run(["solve", "proper", "-"], content), run(["unit", "-"], content)
-    if not any(has_umbrella(order, set(edges)) for order in orders(count)):
+    if not is_proper(count, edges):
         return difference("status", 1, printed.returncode) or difference("output", solved.stdout, printed.stdout)
     shown = next(line for line in solved.stdout.decode().splitlines() if line.startswith("order "))
     order = [int(word) for word in shown.split()[1:]]

@@ -20,7 +20,7 @@ UNTICKED = {
 # has which goes over a list.
 IN_PLACE = {
     "pq_arena": {
-        "arena.rt/new": 3, "tree_below": 3, "children_of": 3, "ring_children": 1, "run_children": 2, "bare_nodes": 1, "is_one_tree": 1, "has_two_each": 1,
+        "arena.rt/new": 3, "tree_below": 6, "children_of": 3, "ring_children": 1, "run_children": 2, "bare_nodes": 1, "is_one_tree": 1, "has_two_each": 1,
     },
     "bubble_pass": {
         "chains.rt/new": 3, "descend": 1, "link": 1, "climber.rt/new": 2, "walk": 1, "turn": 2, "climb": 2, "begin": 1, "first_parked": 1, "grow": 1,
@@ -38,7 +38,7 @@ IN_PLACE = {
 HEADS = {
     "pq_arena": {
         "arena.rt/new": ["for i in 0..c {"],
-        "tree_below": ["for number in &numbers {"],
+        "tree_below": ["for number in &numbers {", "for number in &numbers {"],
         "ring_children": ["for _ in 0..count {"],
         "run_children": ["for _ in 0..nodes.len() {"],
         "bare_nodes": ["for i in 0..count {"],

@@ -64,6 +64,12 @@ next_row rows further k h =
     ap (λ more. rows ++ more) (take_more further k [] h) ∙ ap (λ n. rows ++ (take k further ++ get_or further n [] ∷ [])) (sym here)
     ∙ sym (append_assoc rows (take k further) (row_at further (k + 1) ∷ []))
 
+-- the reducer has taken one row more of those that follow
+pub next_taken : (c : ℕ) (rows further : List (List ℕ)) (k : ℕ) (f g : Layout) (s n p : ℕ) (step : Step) → step ≡ Taken → k < length further → HasTaken c (rows ++ take k further) f s n → g.columns ≡ f.columns →
+    IsTied c ((rows ++ take k further) ++ row_at further (k + 1) ∷ []) (outline_at g) → IsFrugal (row_at further (k + 1)) (outline_at f) (outline_at g) n p step → HasTaken c (rows ++ take (k + 1) further) g s p
+next_taken c rows further k f g s n p step e h taken columns tied cost =
+    subst (λ (ms : List (List ℕ)). HasTaken c ms g s p) (sym (next_row rows further k h)) (row_taken c (rows ++ take k further) (row_at further (k + 1)) f g s n p step e taken columns tied cost)
+
 -- a proper tree that is tied to some rows has an order that is valid for them
 proper_order : (c n : ℕ) (rows : List (List ℕ)) (t : Outline) → n ≡ c → IsProper n t → IsTied c rows t → HasValidOrder c rows
 proper_order c n rows t e proper tied =

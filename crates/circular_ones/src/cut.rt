@@ -19,7 +19,7 @@ use std::alloc::Global;
 pub fn cut_rows(alloc: Global, m: &Matrix) -> Result<Matrix, NoMemory>
     ensures { IfOk result (λ rows. rows ≡ cut m.now) }
 {
-    let mut rows = Matrix::new(alloc, m.columns())?;
+    let mut rows = Matrix::with_room(alloc, m.columns(), m.rows() as usize, m.ones() as usize)?;
     let mut outside = Vec::new(alloc);
     for k in 0..m.rows() {
         let row = m.row(k + 1);

@@ -60,32 +60,14 @@ impl InstanceReader {
         ensures value { IfOk result (λ taken. (rest : List ℕ)
             → instance_with taken.0 (drop taken.1 text.now ++ rest) ≡ instance_with self (text.now ++ rest)) }
     {
-        match self {
-            InstanceReader::Matrix(dense) => {
-                let (dense, taken) = dense.take(alloc, text)?;
-                Ok((InstanceReader::Matrix(dense), taken))
-            }
-            InstanceReader::Circular(dense) => {
-                let (dense, taken) = dense.take(alloc, text)?;
-                Ok((InstanceReader::Circular(dense), taken))
-            }
-            InstanceReader::Rows(rows) => {
-                let (rows, taken) = rows.take(alloc, text)?;
-                Ok((InstanceReader::Rows(rows), taken))
-            }
-            InstanceReader::Convex(graph) => {
-                let (graph, taken) = graph.take(alloc, text)?;
-                Ok((InstanceReader::Convex(graph), taken))
-            }
-            InstanceReader::Doubly(graph) => {
-                let (graph, taken) = graph.take(alloc, text)?;
-                Ok((InstanceReader::Doubly(graph), taken))
-            }
-            InstanceReader::Proper(graph) => {
-                let (graph, taken) = graph.take(alloc, text)?;
-                Ok((InstanceReader::Proper(graph), taken))
-            }
-        }
+        Ok(match self {
+            Self::Matrix(dense) => after(dense.take(alloc, text)?, Self::Matrix),
+            Self::Circular(dense) => after(dense.take(alloc, text)?, Self::Circular),
+            Self::Rows(rows) => after(rows.take(alloc, text)?, Self::Rows),
+            Self::Convex(graph) => after(graph.take(alloc, text)?, Self::Convex),
+            Self::Doubly(graph) => after(graph.take(alloc, text)?, Self::Doubly),
+            Self::Proper(graph) => after(graph.take(alloc, text)?, Self::Proper),
+        })
     }
 
     /// The instance of the file, or its first refusal, where these bytes are left of it.
@@ -114,4 +96,13 @@ impl InstanceReader {
             InstanceReader::Proper(graph) => map_read(graph.finish(alloc, text)?, Instance::Proper),
         })
     }
+}
+
+// A reader of one kind of file that took so many bytes, as one of instances.
+fn after<R, F: FnOnce(R) -> InstanceReader>(taken: (R, usize), reader: F) -> (InstanceReader, usize)
+    requires { F.pre reader taken.0 }
+    ensures reader { F.post reader taken.0 result.0 }
+    ensures taken { result.1 ≡ taken.1 }
+{
+    (reader(taken.0), taken.1)
 }

@@ -8,6 +8,7 @@ ghost use Rattle.command_input.specs.Words.{IsExtended};
 ghost use Rattle.commands.specs.CoreJudgements.{IsCoreJudgement, IsCoreJudgementReply};
 
 use crate::core_judgement::CoreJudgement;
+use crate::line_reply::line_reply;
 use crate::{MAX_CORE_BYTES, NoMemory, Reply};
 use core_text::parse_core;
 use instance_model::Instance;
@@ -37,11 +38,8 @@ pub fn core_judgement_reply(
         unreachable!()
     };
     let judgement = judge(alloc, kind, m, core)?;
-    let text = format!(in alloc; "{judgement}\n")?;
-    Ok(Reply {
-        status: judgement.status(),
-        text: text.into_bytes(),
-    })
+    let line = format!(in alloc; "{judgement}\n")?;
+    Ok(line_reply(judgement.status(), line))
 }
 
 // What is found of the bytes of a core.

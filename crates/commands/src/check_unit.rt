@@ -7,6 +7,7 @@ ghost use Rattle.instance_model.specs.Value.{instance_value};
 ghost use Rattle.commands.specs.Findings.{IsFinding, IsFindingReply};
 
 use crate::finding::Finding;
+use crate::line_reply::line_reply;
 use crate::{MAX_VERDICT_BYTES, NoMemory, Reply, graph_law};
 use graph_model::Graph;
 use instance_model::Instance;
@@ -35,11 +36,8 @@ pub fn finding_reply(alloc: Global, instance: &Instance, unit: &Whole) -> Result
         unreachable!()
     };
     let finding = find(alloc, graph, unit)?;
-    let text = format!(in alloc; "{finding}\n")?;
-    Ok(Reply {
-        status: finding.status(),
-        text: text.into_bytes(),
-    })
+    let line = format!(in alloc; "{finding}\n")?;
+    Ok(line_reply(finding.status(), line))
 }
 
 // What is found of the bytes of a unit model.

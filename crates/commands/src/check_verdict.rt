@@ -6,6 +6,7 @@ ghost use Rattle.instance_model.specs.Value.{instance_value};
 ghost use Rattle.commands.specs.Judgements.{IsJudgement, IsJudgementReply};
 
 use crate::judgement::Judgement;
+use crate::line_reply::line_reply;
 use crate::{MAX_VERDICT_BYTES, NoMemory, Reply};
 use pq_io::Whole;
 use std::alloc::Global;
@@ -29,11 +30,8 @@ pub fn judgement_reply(
     ensures status { IfOk result (λ reply. (reply.status ≡ 0) ⊎ (reply.status ≡ 1)) }
 {
     let judgement = judge(alloc, instance, verdict)?;
-    let text = format!(in alloc; "{judgement}\n")?;
-    Ok(Reply {
-        status: judgement.status(),
-        text: text.into_bytes(),
-    })
+    let line = format!(in alloc; "{judgement}\n")?;
+    Ok(line_reply(judgement.status(), line))
 }
 
 // What is found of the bytes of a verdict.

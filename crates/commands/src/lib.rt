@@ -20,6 +20,7 @@ mod check_verdict;
 mod core_judgement;
 mod finding;
 mod judgement;
+mod line_reply;
 mod meeting;
 mod verdict_laws;
 

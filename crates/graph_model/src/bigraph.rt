@@ -100,6 +100,13 @@ impl Bigraph {
         self.lists.has(x, y)
     }
 
+    /// The lists of the xs as the rows of a matrix, which has a column for each y.
+    pub fn lists(&self) -> &Matrix
+        ensures { result.now ≡ record { columns = self.now.right; rows = self.now.neighbours } }
+    {
+        &self.lists
+    }
+
     /// The ys that `x` has an edge to, strictly ascending.
     pub fn neighbours(&self, x: u32) -> &[u32]
         requires { (1 ≤ x) × (x ≤ self.now.left) }

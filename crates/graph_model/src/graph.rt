@@ -81,6 +81,13 @@ impl Graph {
         self.lists.columns()
     }
 
+    /// The lists of the neighbours as the rows of a matrix, which has a column for each vertex.
+    pub fn lists(&self) -> &Matrix
+        ensures { result.now ≡ record { columns = self.now.vertices; rows = self.now.neighbours } }
+    {
+        &self.lists
+    }
+
     /// Whether there is an edge between two vertices. The search is binary.
     pub fn edge(&self, u: u32, v: u32) -> bool
         requires u { (1 ≤ u) × (u ≤ self.now.vertices) }

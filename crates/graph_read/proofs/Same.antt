@@ -15,12 +15,13 @@ use Rattle.text_lines.specs.FirstRefusal.{filled_of}
 use Rattle.text_lines.specs.Heads.{size_given, if_head, from_head}
 use Rattle.text_lines.specs.Rows.{code_or, first_refusal, refused_or}
 use Rattle.text_lines.specs.Words.{words_of, number_of, numbers_in, numeral}
+use Rattle.text_lines.specs.declared.words.Numeral.{Numeral}
 use Rattle.text_lines.specs.declared.words.Numeral.TheVariants.{Value, TooLarge, NotDigits}
 use Rattle.graph_model.specs.declared.TheConstants.{LEFT_BOUND}
 use Rattle.graph_read.specs.declared.edges.Edge.{Edge}
 use Rattle.graph_read.specs.declared.edges.Shape.{Shape}
 use Rattle.graph_read.specs.declared.edges.Shape.TheVariants.{Bipartite, Plain}
-use Rattle.graph_read.specs.Numbers.{is_within, value_of, both_numbers, two_numbers, if_number, one_number, is_value, are_values}
+use Rattle.graph_read.specs.Numbers.{is_zero, is_past, size_named, is_within, value_of, both_numbers, two_numbers, if_number, one_number, is_value, are_values}
 use Rattle.graph_read.specs.Edges.{refused_as, edge_named, edge_code, both_ways, ends_from, edges_of, edge_refusal, lists_from, sides_named, vertices_named}
 use Rattle.graph_read.specs.GraphFiles.{bigraph_with, bigraph_behind, bigraph_lines, graph_with, graph_behind, graph_lines}
 use Rattle.graph_read.specs.DistanceFiles.{items_named, distances_sized, distances_behind, distances_lines, distances}
@@ -30,7 +31,7 @@ use Rattle.graph_read.proofs.EdgeLemmas.{ends_either}
 use Rattle.graph_read.proofs.EdgeNames.{lines_name}
 
 -- a head of another form
-abbrev shaped : {A B : Type 0} → (A → B) → Result A ℕ → Result B ℕ
+abbrev pub shaped : {A B : Type 0} → (A → B) → Result A ℕ → Result B ℕ
 shaped f (Ok head) = Ok (f head)
 shaped f (Err code) = Err code
 
@@ -46,6 +47,11 @@ large_some u large = let far : 2 ^ 64 ≤ u = ltb-false u (2 ^ 64) large in ne_e
 
 large_past : (limit u : ℕ) → limit < 2 ^ 64 → nat_lt u (2 ^ 64) ≡ false → nat_lt limit u ≡ true
 large_past limit u small large = let far : 2 ^ 64 ≤ u = ltb-false u (2 ^ 64) large in lt-ltb limit u (omega arith)
+
+-- the vertices by the number that a first line gives
+pub vertices_shaped : (o : Option Numeral) → vertices_named o ≡ shaped (λ n. Plain n) (size_named MAX_COLUMNS o)
+vertices_shaped None = refl
+vertices_shaped (Some n) = tests_shaped (λ n. Plain n) (value_of n) (is_zero n) (is_past MAX_COLUMNS n)
 
 -- a first line with one number
 module _ (limit : ℕ) (small : limit < 2 ^ 64) where

@@ -1,11 +1,11 @@
 -- The tables of distances that files write.
-use Rattle.std.specs.Prelude.{ℕ, nat_le, List, length, take, if◌then◌else◌, Option, Some, None, Result, Ok, Err}
+use Rattle.std.specs.Prelude.{ℕ, nat_le, List, length, take, if◌then◌else◌, Option, Some, None, Result}
 use Rattle.std.specs.List.{concat}
 use Rattle.row_model.specs.declared.refusal.Refusal.{Refusal}
 use Rattle.row_model.specs.declared.refusal.Read.{Read}
 use Rattle.row_model.specs.Limits.{within_length}
 use Rattle.row_model.specs.declared.TheConstants.{MAX_ITEMS}
-use Rattle.row_model.specs.declared.code.TheConstants.{GRAMMAR, COUNT, RANGE, LIMIT}
+use Rattle.row_model.specs.declared.code.TheConstants.{COUNT}
 use Rattle.text_lines.specs.Lines.{NumberedLine}
 use Rattle.text_lines.specs.FirstRefusal.{filled_of}
 use Rattle.text_lines.specs.Heads.{size_given, if_head, from_head}
@@ -14,15 +14,11 @@ use Rattle.text_lines.specs.Words.{words_of, numbers_in}
 use Rattle.text_lines.specs.declared.words.Numeral.{Numeral}
 use Rattle.graph_model.specs.Distances.{DistancesValue}
 use Rattle.graph_read.specs.DistanceRows.{rows_in, next_row_code}
-use Rattle.graph_read.specs.Numbers.{is_zero, is_past, value_of, one_number}
+use Rattle.graph_read.specs.Numbers.{size_named, one_number}
 
 -- the number of items, or the code of its refusal
 abbrev pub items_named : Option Numeral → Result ℕ ℕ
-items_named None = Err GRAMMAR
-items_named (Some n) =
-    if is_zero n then Err RANGE
-    else if is_past MAX_ITEMS n then Err LIMIT
-    else Ok (value_of n)
+items_named = size_named MAX_ITEMS
 
 -- the code by which one of these lines is refused as the next row of a table of n items, where so many of them stand
 -- before it

@@ -1,5 +1,6 @@
 -- Words as numbers, and the one or two numbers of a line.
-use Rattle.std.specs.Prelude.{ℕ, ◌==◌, ◌&&◌, not, nat_lt, Bool, true, false, List, [], ◌∷◌, if◌then◌else◌, Option, Some, None}
+use Rattle.std.specs.Prelude.{ℕ, ◌==◌, ◌&&◌, not, nat_lt, Bool, true, false, List, [], ◌∷◌, if◌then◌else◌, Option, Some, None, Result, Ok, Err}
+use Rattle.row_model.specs.declared.code.TheConstants.{GRAMMAR, RANGE, LIMIT}
 use Rattle.text_lines.specs.Words.{numeral_of}
 use Rattle.text_lines.specs.declared.words.Numeral.{Numeral}
 use Rattle.text_lines.specs.declared.words.Numeral.TheVariants.{Value, TooLarge, NotDigits}
@@ -50,6 +51,14 @@ if_number a = if is_number a then Some a else None
 abbrev pub one_number : List (List ℕ) → Option Numeral
 one_number (a ∷ []) = if_number (numeral_of a)
 one_number words = None
+
+-- a number from 1 to a limit, or the code of its refusal
+abbrev pub size_named : ℕ → Option Numeral → Result ℕ ℕ
+size_named limit None = Err GRAMMAR
+size_named limit (Some n) =
+    if is_zero n then Err RANGE
+    else if is_past limit n then Err LIMIT
+    else Ok (value_of n)
 
 -- whether a number is n
 abbrev pub is_value : ℕ → Numeral → Bool

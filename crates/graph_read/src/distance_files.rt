@@ -7,28 +7,11 @@ ghost use Rattle.graph_read.specs.DistanceFiles.{items_named, distances};
 ghost use Rattle.graph_read.specs.DistanceSteps.{numbers_behind, is_row_at, table_with_row, row_behind, table_behind};
 
 use crate::heads::{head_of, refusal};
-use crate::numbers::{is_past, is_zero, one_number, value_of};
+use crate::numbers::size_in;
 use graph_model::Distances;
 use row_model::{MAX_FILE_BYTES, MAX_ITEMS, NoMemory, Read, Refusal, code};
 use std::alloc::Global;
 use text_lines::{Numeral, next_filled_line, next_number};
-
-// The number of items that a first line gives, or the code of its refusal.
-fn items_in(line: &[u8]) -> Result<u32, u8>
-    ensures items { result ≡ items_named (one_number (words_of line.now)) }
-    ensures range { IfOk result (λ n. (1 ≤ n) × (n ≤ MAX_ITEMS)) }
-{
-    let Some(number) = one_number(line) else {
-        return Err(code::GRAMMAR);
-    };
-    if is_zero(number) {
-        return Err(code::RANGE);
-    }
-    if is_past(MAX_ITEMS, number) {
-        return Err(code::LIMIT);
-    }
-    Ok(value_of(number) as u32)
-}
 
 // Adds the numbers of a line, or gives the code of the first word that is refused.
 fn push_numbers(line: &[u8], values: &mut Vec<u64>) -> Result<Option<u8>, NoMemory>
@@ -166,7 +149,7 @@ pub fn read_distances(alloc: Global, bytes: &[u8]) -> Result<Read<Distances>, No
         Err(refusal) => return Ok(Read::Refused(refusal)),
         Ok(head) => head,
     };
-    let n = match items_in(head.line) {
+    let n = match size_in(MAX_ITEMS, head.line) {
         Err(code) => return Ok(Read::Refused(refusal(code, head.number))),
         Ok(n) => n,
     };

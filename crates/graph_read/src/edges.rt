@@ -4,7 +4,7 @@ ghost use Rattle.text_lines.specs.Words.{words_of};
 ghost use Rattle.graph_read.specs.Numbers.{is_number, one_number, two_numbers};
 ghost use Rattle.graph_read.specs.Edges.{left_of, right_of, edge_named, sides_named, vertices_named};
 
-use crate::numbers::{NumberPair, is_past, is_within, is_zero, one_number, two_numbers, value_of};
+use crate::numbers::{NumberPair, is_past, is_within, is_zero, size_in, two_numbers, value_of};
 use row_model::{MAX_COLUMNS, code};
 
 /// An edge as a line names it.
@@ -114,16 +114,6 @@ pub fn vertices_in(line: &[u8]) -> Result<Shape, u8>
     ensures range { IfOk result (λ shape. (1 ≤ left_of shape) × (left_of shape ≤ MAX_COLUMNS)) }
     ensures square { IfOk result (λ shape. shape ≡ Shape.Plain (left_of shape)) }
 {
-    let Some(number) = one_number(line) else {
-        return Err(code::GRAMMAR);
-    };
-    if is_zero(number) {
-        return Err(code::RANGE);
-    }
-    if is_past(MAX_COLUMNS, number) {
-        return Err(code::LIMIT);
-    }
-    Ok(Shape::Plain {
-        vertices: value_of(number) as u32,
-    })
+    let vertices = size_in(MAX_COLUMNS, line)?;
+    Ok(Shape::Plain { vertices })
 }

@@ -126,7 +126,7 @@ impl LinesRead {
                     Ok(shape) => {
                         Self::further_lines(
                             heading,
-                            EdgePlaces::new(alloc, shape),
+                            EdgePlaces::new(alloc, shape, text.len())?,
                             text,
                             at,
                             number,

@@ -1,8 +1,9 @@
 // Words as numbers, and the one or two numbers of a line.
-ghost use Rattle.std.specs.Prelude.{◌≡◌};
+ghost use Rattle.std.specs.Prelude.{◌≡◌, ◌≤◌, IfOk};
 ghost use Rattle.text_lines.specs.Words.{words_of};
-ghost use Rattle.graph_read.specs.Numbers.{is_number, is_zero, is_past, is_within, value_of, both_numbers, two_numbers, if_number, one_number};
+ghost use Rattle.graph_read.specs.Numbers.{is_number, is_zero, is_past, is_within, value_of, both_numbers, two_numbers, if_number, one_number, size_named};
 
+use row_model::code;
 use text_lines::{Numeral, next_number};
 
 /// Two numbers that stand in a line, each of digits.
@@ -52,6 +53,23 @@ pub fn one_number(line: &[u8]) -> Option<Numeral>
         Some(_) => None,
         None => if_number(a.number),
     }
+}
+
+/// The number of such a line, if it is from 1 to a limit, or the code of its refusal.
+pub fn size_in(limit: u32, line: &[u8]) -> Result<u32, u8>
+    ensures size { result ≡ size_named limit (one_number (words_of line.now)) }
+    ensures range { IfOk result (λ n. (1 ≤ n) × (n ≤ limit)) }
+{
+    let Some(number) = one_number(line) else {
+        return Err(code::GRAMMAR);
+    };
+    if is_zero(number) {
+        return Err(code::RANGE);
+    }
+    if is_past(limit, number) {
+        return Err(code::LIMIT);
+    }
+    Ok(value_of(number) as u32)
 }
 
 // A word as a number, if it is digits.

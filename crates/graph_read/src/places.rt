@@ -57,7 +57,7 @@ pub fn lists_at(alloc: Global, left: u32, right: u32, places: &[u32]) -> Result<
     requires ascending { IsNonDecreasing places.now }
     ensures { IfOk result (λ m. (edges : List Edge) → ArePlaces left right edges places.now → m ≡ record { columns = right; rows = lists_from 1 left right edges }) }
 {
-    let mut lists = Matrix::new(alloc, right)?;
+    let mut lists = Matrix::with_room(alloc, right, left as usize, places.len())?;
     let mut list = Vec::new(alloc);
     let mut at = 0;
     for x in 0..left {

@@ -32,17 +32,20 @@ pub struct EdgePlaces {
 }
 
 impl EdgePlaces {
-    /// No edge.
-    pub fn new(alloc: Global, shape: Shape) -> Self
+    /// No edge, where so many bytes of lines are at hand.
+    ///
+    /// # Errors
+    ///
+    /// [`NoMemory`] where memory is refused.
+    pub fn new(alloc: Global, shape: Shape, bytes: usize) -> Result<Self, NoMemory>
         requires left { (1 ≤ left_of shape) × (left_of shape ≤ LEFT_BOUND) }
         requires right { (1 ≤ right_of shape) × (right_of shape ≤ COLUMN_BOUND) }
-        ensures shape { result.shape ≡ shape }
-        ensures places { result.places.items ≡ [] }
+        ensures shape { IfOk result (λ edges. edges.shape ≡ shape) }
+        ensures places { IfOk result (λ edges. edges.places.items ≡ []) }
     {
-        EdgePlaces {
-            shape,
-            places: Vec::new(alloc),
-        }
+        // A line takes four bytes or more. An edge that goes both ways takes two places.
+        let places = Vec::with_capacity(alloc, bytes / 4)?;
+        Ok(EdgePlaces { shape, places })
     }
 
     /// The lists of these edges.

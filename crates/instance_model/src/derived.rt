@@ -7,7 +7,8 @@ use crate::instance::Instance;
 use row_model::{Matrix, NoMemory};
 use std::alloc::Global;
 
-/// The derived matrix of a side: that of a plain instance lies in it, and any other is made.
+/// The derived matrix of a side. A plain instance holds its own, and a bipartite graph that of its left side. Any other is
+/// made.
 #[derive(Drop)]
 pub enum Derived<'a> {
     /// The instance holds it.
@@ -17,7 +18,7 @@ pub enum Derived<'a> {
 }
 
 impl<'a> Derived<'a> {
-    /// The derived matrix of a side of the instance. That of a plain instance is not copied.
+    /// The derived matrix of a side of the instance.
     ///
     /// # Errors
     ///
@@ -29,6 +30,8 @@ impl<'a> Derived<'a> {
     {
         match instance {
             Instance::Plain(_, matrix) => Ok(Derived::Lent(matrix)),
+            Instance::Convex(graph) => Ok(Derived::Lent(graph.lists())),
+            Instance::Doubly(graph) if side == 1 => Ok(Derived::Lent(graph.lists())),
             _ => Ok(Derived::Made(instance.derived(alloc, side)?)),
         }
     }

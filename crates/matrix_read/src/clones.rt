@@ -123,7 +123,7 @@ fn clone_matrix(
     requires few { length clones.now ≤ MAX_ROWS }
     ensures { IfOk result (λ read. read ≡ names_matrix (bytes_of names.now.keys) (clones_view clones.now)) }
 {
-    let matrix = Matrix::new(alloc, names.len() as u32)?;
+    let matrix = Matrix::with_room(alloc, names.len() as u32, clones.len(), clones.len())?;
     let mut marks = vec![in alloc; false; names.len()]?;
     let mut columns = vec![in alloc; 0u32; names.len()]?;
     push_rows(matrix, names, clones, &mut marks, &mut columns)

@@ -46,7 +46,7 @@ fn first_lines(alloc: Global, text: &[u8], passed: u32) -> Result<LinesRead, NoM
         }),
         Ok(Front::NoRow(passed)) => Ok(LinesRead { passed, rows: None }),
         Ok(Front::Row(first)) => {
-            let rows = DigitRows::new(alloc, first.width)?;
+            let rows = DigitRows::new(alloc, first.width, text.len())?;
             rows.with_lines(&text[first.start..], first.passed)
         }
     }

@@ -31,12 +31,13 @@ pub(crate) struct LinesRead {
 impl DigitRows {
     ghost use Rattle.matrix_read.specs.DigitRows.{lines_then};
 
-    /// No row of this width.
-    pub fn new(alloc: Global, width: u32) -> Result<Self, NoMemory>
+    /// No row of this width, where so many bytes of lines are at hand.
+    pub fn new(alloc: Global, width: u32, bytes: usize) -> Result<Self, NoMemory>
         requires range { (1 ≤ width) × (width ≤ MAX_COLUMNS) }
         ensures { IfOk result (λ rows. rows.matrix ≡ record { columns = width; rows = [] }) }
     {
-        let matrix = Matrix::new(alloc, width)?;
+        // A line takes a byte for each column or more. Where more than a quarter are ones, their list grows later.
+        let matrix = Matrix::with_room(alloc, width, bytes / width as usize, bytes / 4)?;
         let columns = vec![in alloc; 0u32; width as usize]?;
         Ok(DigitRows { matrix, columns })
     }

@@ -30,14 +30,15 @@ pub(crate) struct NamedRows {
 impl NamedRows {
     ghost use Rattle.matrix_read.specs.NamedRows.{read_then, named_then};
 
-    /// No row over 1 to `c`, where `passed` lines stand before the first.
-    pub fn new(alloc: Global, passed: u32, c: u32) -> Result<Self, NoMemory>
+    /// No row over 1 to `c`, where `passed` lines stand before the first, and so many bytes of lines are at hand.
+    pub fn new(alloc: Global, passed: u32, c: u32, bytes: usize) -> Result<Self, NoMemory>
         requires passed { passed ≤ 1 }
         requires range { (1 ≤ c) × (c ≤ COLUMN_BOUND) }
         ensures passed { IfOk result (λ rows. rows.passed ≡ passed) }
         ensures matrix { IfOk result (λ rows. rows.matrix ≡ record { columns = c; rows = [] }) }
     {
-        let matrix = Matrix::new(alloc, c)?;
+        // Most numbers take four bytes of a line or more.
+        let matrix = Matrix::with_room(alloc, c, bytes / 4, bytes / 4)?;
         let marks = vec![in alloc; false; c as usize]?;
         let columns = vec![in alloc; 0u32; c as usize]?;
         Ok(NamedRows {

@@ -96,7 +96,7 @@ fn first_lines(alloc: Global, text: &[u8]) -> Result<Option<Read<NamedRows>>, No
     match width_given(&text[first.start..first.end]) {
         Err(code) => Ok(Some(Read::Refused(Refusal { code, line: 1 }))),
         Ok(c) => {
-            let rows = NamedRows::new(alloc, 1, c)?;
+            let rows = NamedRows::new(alloc, 1, c, text.len())?;
             Ok(Some(rows.with_lines(&text[first.next..])?))
         }
     }

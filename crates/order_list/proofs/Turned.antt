@@ -80,17 +80,11 @@ module _ (t : Tree) (v : Vec Tree Global) (xs : List Low) (same : map outline_of
   pub over_Q : t ≡ Q v → outline_of t ≡ q_node (forest (map outline_low xs))
   over_Q e = ap outline_of e ∙ outline_of-Q v ∙ ap (λ ts. q_node (forest ts)) same
 
-  pub low_P : t ≡ P v → FirstsRise (forest (map outline_low xs)) → StandsLow (outline_of t)
-  low_P e h = subst StandsLow (sym (over_P e)) (h, all_low xs)
+  pub stands_P : (m : ℕ) → t ≡ P v → FirstsRise (forest (map outline_low xs)) → m ≡ first_of (forest (map outline_low xs)) → StandsLow (outline_of t) × (m ≡ first_column (outline_of t))
+  stands_P m e rise first = (subst StandsLow (sym (over_P e)) (rise, all_low xs), first ∙ sym (ap first_column (over_P e)))
 
-  pub low_Q : t ≡ Q v → EndsLow (forest (map outline_low xs)) → StandsLow (outline_of t)
-  low_Q e h = subst StandsLow (sym (over_Q e)) (h, all_low xs)
-
-  pub first_P : (m : ℕ) → t ≡ P v → m ≡ first_of (forest (map outline_low xs)) → m ≡ first_column (outline_of t)
-  first_P m e h = h ∙ sym (ap first_column (over_P e))
-
-  pub first_Q : (m : ℕ) → t ≡ Q v → m ≡ first_of (forest (map outline_low xs)) → m ≡ first_column (outline_of t)
-  first_Q m e h = h ∙ sym (ap first_column (over_Q e))
+  pub stands_Q : (m : ℕ) → t ≡ Q v → EndsLow (forest (map outline_low xs)) → m ≡ first_of (forest (map outline_low xs)) → StandsLow (outline_of t) × (m ≡ first_column (outline_of t))
+  stands_Q m e ends first = (subst StandsLow (sym (over_Q e)) (ends, all_low xs), first ∙ sym (ap first_column (over_Q e)))
 
 -- the leaf
 pub low_leaf : (t : Tree) (a : ℕ) → t ≡ Leaf a → StandsLow (outline_of t) × (a ≡ first_column (outline_of t))

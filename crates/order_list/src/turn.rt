@@ -3,7 +3,7 @@ ghost use Rattle.std.specs.Prelude.{◌≡◌, ◌⊎◌, map, reverse, IfOk, Is
 ghost use Rattle.pq_tree.specs.Outline.{leaf, p_node, q_node};
 ghost use Rattle.pq_tree.specs.Proper.{outline_of, forest};
 ghost use Rattle.pq_tree.specs.Equivalent.{IsEquivalent, AreEquivalent};
-ghost use Rattle.order_list.specs.Low.{first_of, FirstsRise, EndsLow};
+ghost use Rattle.order_list.specs.Low.{first_column, first_of, FirstsRise, EndsLow, StandsLow};
 ghost use Rattle.order_list.specs.LowTrees.{outline_low};
 
 use crate::NoMemory;
@@ -67,10 +67,7 @@ fn turn_low(trees: &mut Vec<Low>)
 fn low_leaf(column: u32) -> Low
     ensures { outline_low result ≡ leaf column }
 {
-    Low {
-        tree: Tree::leaf(column),
-        first: column,
-    }
+    with_first(Tree::leaf(column), column)
 }
 
 // The P-node over trees whose first columns rise.
@@ -78,9 +75,8 @@ fn low_p(alloc: Global, children: Vec<Low>) -> Result<Low, NoMemory>
     requires { FirstsRise (forest (map outline_low children.items)) }
     ensures { IfOk result (λ low. outline_low low ≡ p_node (forest (map outline_low children.items))) }
 {
-    let first = first_of_all(&children);
-    let tree = Tree::p(bare_trees(alloc, children)?);
-    Ok(Low { tree, first })
+    let (trees, first) = bare_trees(alloc, children)?;
+    Ok(with_first(Tree::p(trees), first))
 }
 
 // The Q-node over trees of which the two ends rise.
@@ -88,9 +84,29 @@ fn low_q(alloc: Global, children: Vec<Low>) -> Result<Low, NoMemory>
     requires { EndsLow (forest (map outline_low children.items)) }
     ensures { IfOk result (λ low. outline_low low ≡ q_node (forest (map outline_low children.items))) }
 {
-    let first = first_of_all(&children);
-    let tree = Tree::q(bare_trees(alloc, children)?);
-    Ok(Low { tree, first })
+    let (trees, first) = bare_trees(alloc, children)?;
+    Ok(with_first(Tree::q(trees), first))
+}
+
+// A tree that stands so, with its first column.
+fn with_first(tree: Tree, first: u32) -> Low
+    requires { StandsLow (outline_of tree) × (first ≡ first_column (outline_of tree)) }
+    ensures { outline_low result ≡ outline_of tree }
+{
+    Low { tree, first }
+}
+
+// The trees alone, and the first column of the first tree, 0 where there is none.
+fn bare_trees(alloc: Global, all: Vec<Low>) -> Result<(Vec<Tree>, u32), NoMemory>
+    ensures trees { IfOk result (λ bare. map outline_of bare.0.items ≡ map outline_low all.items) }
+    ensures first { IfOk result (λ bare. bare.1 ≡ first_of (forest (map outline_low all.items))) }
+{
+    let first = first_of_all(&all);
+    let mut trees = Vec::with_capacity(alloc, all.len())?;
+    for one in all {
+        trees.push(one.tree)?;
+    }
+    Ok((trees, first))
 }
 
 // The first column of the first tree, 0 where there is none.
@@ -101,15 +117,4 @@ fn first_of_all(all: &[Low]) -> u32
         None => 0,
         Some((tree, _)) => tree.first,
     }
-}
-
-// The trees alone.
-fn bare_trees(alloc: Global, all: Vec<Low>) -> Result<Vec<Tree>, NoMemory>
-    ensures { IfOk result (λ trees. map outline_of trees.items ≡ map outline_low all.items) }
-{
-    let mut trees = Vec::with_capacity(alloc, all.len())?;
-    for one in all {
-        trees.push(one.tree)?;
-    }
-    Ok(trees)
 }

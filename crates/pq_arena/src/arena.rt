@@ -2,11 +2,12 @@
 ghost use Rattle.std.specs.Prelude.{◌≡◌, ℕ, ◌+◌, ◌*◌, ◌≤◌, length, Some, ◌∷◌, [], ◌++◌, List, map, reverse, IfOk};
 ghost use Rattle.arena_model.specs.ChildLists.{without, oriented, with_replaced, put_on, head_or, last_or, none};
 ghost use Rattle.arena_model.specs.Layout.{shape_at, children_at, with_children, IsChildOfP, StandsAlone, IsAtOrAbove, taken, given_back, IsLeaf, IsInUse, IsLayout, IsSpliceAt, spliced, used_count};
-ghost use Rattle.arena_model.specs.NamedTree.{node_over, outline_below, outline_at, IsOneTree};
+ghost use Rattle.arena_model.specs.NamedTree.{outline_below, outline_at, IsOneTree};
 ghost use Rattle.pq_tree.specs.PqTree.{column_count, outline};
-ghost use Rattle.pq_tree.specs.Proper.{outline_of, IsProper, forest, universal};
+ghost use Rattle.pq_tree.specs.Proper.{IsProper, universal};
 ghost use Rattle.pq_tree.specs.Equivalent.{IsEquivalent};
 ghost use Rattle.pq_tree.specs.Canonical.{IsCanonical};
+ghost use Rattle.pq_tree.specs.Arranged.{outline_in};
 ghost use Rattle.column_order.specs.Orders.{occurs};
 ghost use Rattle.column_order.specs.declared.TheConstants.{COLUMN_BOUND};
 ghost use Rattle.pq_arena.specs.Looks.{IsBeside, node_named};
@@ -24,7 +25,7 @@ use crate::run::*;
 use crate::start::bare_nodes;
 use crate::swap::swap_nodes;
 use arena_model::Shape;
-use pq_tree::{NoMemory, PqTree, Tree};
+use pq_tree::{Arranged, NoMemory, PqTree, QChildren};
 use std::alloc::Global;
 use std::marker::Model;
 use step_count::{Ledger, Steps};
@@ -269,24 +270,33 @@ impl Arena {
         ensures canonical { IfOk result (λ t. IsCanonical (outline t)) }
     {
         let tree = self.tree_below(alloc, self.root)?;
-        PqTree::from_tree(self.columns, tree).canonical(alloc)
+        Ok(PqTree::from_arranged(self.columns, tree))
     }
 
-    // The tree at the node `n`.
-    fn tree_below(&self, alloc: Global, n: u32) -> Result<Tree, NoMemory>
+    // The tree at the node `n`, in canonical form.
+    fn tree_below(&self, alloc: Global, n: u32) -> Result<Arranged, NoMemory>
         requires { IsInUse self.now n }
-        ensures { IfOk result (λ t. outline_of t ≡ outline_below self.now n) }
+        ensures { IfOk result (λ a. IsEquivalent (outline_below self.now n) (outline_in a)) }
     {
-        let shape = self.shape_of(n);
-        if let Shape::Leaf(column) = shape {
-            return Ok(Tree::leaf(column));
+        match self.shape_of(n) {
+            Shape::Leaf(column) => Ok(Arranged::leaf(column)),
+            Shape::P => {
+                let numbers = self.children_of(alloc, n)?;
+                let mut children = Vec::with_capacity(alloc, numbers.len())?;
+                for number in &numbers {
+                    children.push(self.tree_below(alloc, *number)?)?;
+                }
+                Arranged::p(alloc, children)
+            }
+            Shape::Q => {
+                let numbers = self.children_of(alloc, n)?;
+                let mut children = QChildren::with_capacity(alloc, numbers.len())?;
+                for number in &numbers {
+                    children.push(self.tree_below(alloc, *number)?)?;
+                }
+                Ok(children.into_q())
+            }
         }
-        let numbers = self.children_of(alloc, n)?;
-        let mut children = Vec::with_capacity(alloc, numbers.len())?;
-        for number in &numbers {
-            children.push(self.tree_below(alloc, *number)?)?;
-        }
-        Ok(inner_node(shape, children))
     }
 
     // The children of the node `n` from left to right.
@@ -314,17 +324,5 @@ impl Arena {
             NodeKind::Directed => Shape::Q,
             NodeKind::Spare => unreachable!(),
         }
-    }
-}
-
-// The node of this shape, which is no leaf, over these trees.
-fn inner_node(shape: Shape, children: Vec<Tree>) -> Tree
-    requires { IsLeaf shape → ⊥ }
-    ensures { outline_of result ≡ node_over shape (forest (map outline_of children.items)) }
-{
-    match shape {
-        Shape::P => Tree::p(children),
-        Shape::Q => Tree::q(children),
-        Shape::Leaf(_) => unreachable!(),
     }
 }

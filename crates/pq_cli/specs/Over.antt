@@ -1,7 +1,6 @@
 -- Commands over the file of an instance: the files that they name, and what their replies have to be.
 use Rattle.std.specs.Prelude.{◌≡◌, ◌⊎◌, ℕ, ◌≤◌, List, [], ◌∷◌, Result, IfOk}
 use Rattle.pq_io.specs.Whole.{IsWhole}
-use Rattle.pq_io.specs.declared.reading.Whole.{Whole}
 use Rattle.row_model.specs.declared.kind.Kind.{Kind}
 use Rattle.row_model.specs.declared.refusal.Read.TheVariants as read
 use Rattle.instance_model.specs.declared.instance.Instance.{Instance}
@@ -10,6 +9,7 @@ use Rattle.command_input.specs.Instances.{instance_of, ReadsInstance, IsInstance
 use Rattle.reply_laws.specs.Replies.{refusable, refused_at, refusal_of, Replies}
 use Rattle.verdict_replies.specs.declared.reply.Reply.{Reply}
 use Rattle.solve_replies.specs.Steps.{made_status}
+use Rattle.pq_cli.specs.declared.over.Both.{Both}
 
 -- a command names these files, of which the first is that of an instance of this kind
 pub record IsOverInstance (command : Command) (kind : Kind) (names : List (List ℕ)) : Type 0 where
@@ -35,8 +35,8 @@ RepliesToInstance command kind makes =
     → IfOk made (RepliesWhere command (λ files. (bytes : List ℕ) × (files ≡ bytes ∷ []) × ReadsInstance kind bytes (read.Ok i)))
 
 -- what a call makes of an instance and a text of this limit is a reply to a command over the files of both
-abbrev pub RepliesToBoth : {E : Type 0} → Command → Kind → ℕ → (Instance → Whole → Result Reply E → Type 0) → Type 0
+abbrev pub RepliesToBoth : {E : Type 0} → Command → Kind → ℕ → (Both → Result Reply E → Type 0) → Type 0
 RepliesToBoth command kind limit makes =
-    (i : Instance) (w : Whole) (made : _) → IsInstanceOf kind i → makes i w made
+    (both : Both) (made : _) → IsInstanceOf kind both.instance → makes both made
     → IfOk made (RepliesWhere command (λ files.
-    (bytes : List ℕ) × (text : List ℕ) × (files ≡ bytes ∷ text ∷ []) × ReadsInstance kind bytes (read.Ok i) × IsWhole limit text w))
+    (bytes : List ℕ) × (text : List ℕ) × (files ≡ bytes ∷ text ∷ []) × ReadsInstance kind bytes (read.Ok both.instance) × IsWhole limit text both.text))

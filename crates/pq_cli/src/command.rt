@@ -7,7 +7,7 @@ ghost use Rattle.pq_cli.specs.Steps.{CountsReply};
 use crate::extend::extend_file;
 use crate::making::{BlameReply, ListReply, UnitReply, VerdictReply};
 use crate::meet::meet_files;
-use crate::over::{over_both, over_instance};
+use crate::over::{Both, over_both, over_instance};
 use crate::stop::Stop;
 use commands::{
     MAX_CORE_BYTES, MAX_VERDICT_BYTES, Reply, Task, core_judgement_reply, finding_reply,
@@ -45,7 +45,7 @@ pub fn perform<F: Shelf, L: Ledger>(
             file,
             verdict,
         } => {
-            let reply = |i, text| judgement_reply(alloc, &i, &text);
+            let reply = |both: Both| judgement_reply(alloc, &both.instance, &both.text);
             over_both(alloc, kind, file, MAX_VERDICT_BYTES, verdict, files, reply)
         }
         Task::Extend { kind, file, rows } => extend_file(alloc, kind, file, rows, files, steps),
@@ -53,7 +53,7 @@ pub fn perform<F: Shelf, L: Ledger>(
             over_instance(alloc, kind, file, files, &BlameReply { kind }, steps)
         }
         Task::CheckCore { kind, file, core } => {
-            let reply = |i, text| core_judgement_reply(alloc, kind, &i, &text);
+            let reply = |both: Both| core_judgement_reply(alloc, kind, &both.instance, &both.text);
             over_both(alloc, kind, file, MAX_CORE_BYTES, core, files, reply)
         }
         Task::Gen {
@@ -74,7 +74,7 @@ pub fn perform<F: Shelf, L: Ledger>(
         }
         Task::CheckUnit { file, unit } => {
             let kind = Kind::Proper;
-            let reply = |i, text| finding_reply(alloc, &i, &text);
+            let reply = |both: Both| finding_reply(alloc, &both.instance, &both.text);
             over_both(alloc, kind, file, MAX_VERDICT_BYTES, unit, files, reply)
         }
     }

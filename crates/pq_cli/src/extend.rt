@@ -23,6 +23,7 @@ pub mod further_file;
 ///
 /// What stood in the way of the reply.
 #[tactic(auto, using(crate::proofs::Counts::counts_none))]
+#[inline(never)]
 pub fn extend_file<F: Shelf, L: Ledger>(
     alloc: Global,
     kind: Kind,

@@ -22,6 +22,7 @@ pub mod tree_file;
 ///
 /// What stood in the way of the reply.
 #[tactic(auto, using(crate::proofs::Counts::counts_none))]
+#[inline(never)]
 pub fn meet_files<F: Shelf, L: Ledger>(
     alloc: Global,
     columns: u32,

@@ -2,10 +2,10 @@
 ghost use Rattle.std.specs.Prelude.{◌≤◌, ◌^◌, ℕ, Result, [], ◌∷◌};
 ghost use Rattle.std.specs.declared.alloc.AllocError.{AllocError};
 ghost use Rattle.verdict_replies.specs.declared.reply.Reply.{Reply};
-ghost use Rattle.pq_io.specs.declared.reading.Whole.{Whole};
 ghost use Rattle.instance_model.specs.declared.instance.Instance.{Instance};
 ghost use Rattle.command_input.specs.Words.{Command};
 ghost use Rattle.command_input.specs.Instances.{IsInstanceOf};
+ghost use Rattle.pq_cli.specs.declared.over.Both.{Both};
 ghost use Rattle.pq_cli.specs.Over.{IsOverInstance, RepliesToInstance, RepliesToBoth};
 ghost use Rattle.pq_cli.specs.Runs.{RunsCommand};
 ghost use Rattle.pq_cli.specs.Steps.{CountsOnInstance, CountsReply};
@@ -47,6 +47,7 @@ pub trait InstanceReply {
 /// # Errors
 ///
 /// What stood in the way of the reply.
+#[inline(never)]
 pub fn over_instance<F: Shelf, R: InstanceReply, L: Ledger>(
     alloc: Global,
     kind: Kind,
@@ -65,7 +66,28 @@ pub fn over_instance<F: Shelf, R: InstanceReply, L: Ledger>(
         → CountsReply F.taken files.old files.new command result steps.old steps.new }
 {
     let instance = read_instance(alloc, kind, file, files)?;
-    Ok(reply.reply(alloc, &instance, steps)?)
+    let made = reply.reply(alloc, &instance, steps);
+    // Here, in one call: at each way out its kinds would be taken apart anew, which makes the proof slow.
+    drop(instance);
+    Ok(made?)
+}
+
+/// What was read of two files.
+pub struct Both {
+    /// The instance of the first.
+    pub instance: Instance,
+    /// The bytes of the second.
+    pub text: Whole,
+}
+
+// By hand, so that a place where both are dropped proves one call and does not take their parts apart.
+impl Drop for Both {
+    fn drop(self) {
+        let Both {
+            instance: _instance,
+            text: _text,
+        } = self;
+    }
 }
 
 /// The reply to a command over the file of an instance of a kind and that of a text of at most so many bytes: what
@@ -74,7 +96,8 @@ pub fn over_instance<F: Shelf, R: InstanceReply, L: Ledger>(
 /// # Errors
 ///
 /// What stood in the way of the reply.
-pub fn over_both<F: Shelf, R: FnOnce(Instance, Whole) -> Made>(
+#[inline(never)]
+pub fn over_both<F: Shelf, R: FnOnce(Both) -> Made>(
     alloc: Global,
     kind: Kind,
     file: &str,
@@ -84,12 +107,12 @@ pub fn over_both<F: Shelf, R: FnOnce(Instance, Whole) -> Made>(
     reply: R,
 ) -> Result<Reply, Stop>
     requires limit { limit ≤ 2 ^ 32 }
-    requires reply { (i : Instance) (w : Whole) → IsInstanceOf kind i → R.pre reply i w }
+    requires reply { (both : Both) → IsInstanceOf kind both.instance → R.pre reply both }
     ensures { (command : Command) → IsOverInstance command kind (file.now ∷ text.now ∷ [])
         → RepliesToBoth command kind limit (R.post reply)
         → RunsCommand F.content F.taken F.faults files.old files.new command result }
 {
     let instance = read_instance(alloc, kind, file, files)?;
-    let whole = read_text(alloc, limit, text, files)?;
-    Ok(reply(instance, whole)?)
+    let text = read_text(alloc, limit, text, files)?;
+    Ok(reply(Both { instance, text })?)
 }

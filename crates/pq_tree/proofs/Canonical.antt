@@ -1,7 +1,7 @@
 -- The least column, and trees in canonical order.
-use Rattle.std.proofs.Common.{◌≡◌, ◌≢◌, ◌⊎◌, ◌∙◌, ◌+◌, ◌<◌, ◌≤◌, ◌-◌, ℕ, zero, suc, min, List, [], ◌∷◌, ◌++◌, reverse, map, take, length, get_or, fold, IsTrue, IsFalse, IsPermutation, refl, sym, ap, subst, inl, inr, arith}
+use Rattle.std.proofs.Common.{◌≡◌, ◌≢◌, ◌∙◌, ◌+◌, ◌<◌, ◌≤◌, ℕ, zero, suc, min, List, [], ◌∷◌, ◌++◌, map, take, length, get_or, fold, IsTrue, IsFalse, IsPermutation, sym, ap, subst, inl, inr, arith}
 use Rattle.std.proofs.lemmas.Bool.{both_ways, cases_Bool, cases_lt}
-use Rattle.std.proofs.lemmas.List.{length-reverse, get_or-reverse, map_more, map-append, take_all}
+use Rattle.std.proofs.lemmas.List.{map_more, map-append, take_all}
 use Rattle.std.proofs.lemmas.List.Sums.{fold-append}
 use Rattle.std.proofs.lemmas.List.Sorted.{IsPermutation-map}
 use Rattle.std.specs.List.Sorted.{IsNonDecreasingBy, IsStrictlyIncreasing}
@@ -12,12 +12,13 @@ use Rattle.column_order.proofs.Lists.{has_head, has_append_left, has_append_righ
 use Rattle.pq_tree.specs.Outline.{Outline, Forest, leaf, p_node, q_node, no_tree, tree_and, leaves, leaves_of}
 use Rattle.pq_tree.specs.Proper.{outline_of, forest, count, HasArities, HaveArities, IsTree, AreTrees}
 use Rattle.pq_tree.specs.Equivalent.{IsEquivalent, AreEquivalent}
-use Rattle.pq_tree.specs.Canonical.{least, least_of, leasts, CanonicalIfTree, AreCanonical, EndsRise}
+use Rattle.pq_tree.specs.Canonical.{least, least_of, leasts, CanonicalIfTree, AreCanonicalIfTrees, AreCanonical}
 use Rattle.pq_tree.specs.Arranged.{outline_in}
 use Rattle.pq_tree.specs.declared.Tree.{Tree, Leaf, P, Q}
 use Rattle.pq_tree.specs.declared.arranged.Arranged.{Arranged}
-use Rattle.pq_tree.proofs.Forests.{map-reverse}
+use Rattle.pq_tree.proofs.Forests.{trees-forest}
 use Rattle.pq_tree.proofs.Shown.{outline_of-Leaf, outline_of-P, outline_of-Q}
+use Rattle.pq_tree.proofs.Turnings.{are_equivalent_refl, turned_P, turned_Q}
 
 -- the first of the trees, and the others
 first_tree : (t : Outline) (ts : Forest) → AreTrees (tree_and t ts) → IsTree t
@@ -49,24 +50,27 @@ mutual
       ]
 
 -- a number that is no column of the tree is not its least column
-not_least : (m : ℕ) (t : Outline) → HasArities t → IsFalse (has (leaves t) m) → m ≢ least t
+pub not_least : (m : ℕ) (t : Outline) → HasArities t → IsFalse (has (leaves t) m) → m ≢ least t
 not_least m t h lacks e = both_ways (has (leaves t) m) lacks (subst (λ n. IsTrue (has (leaves t) n)) (sym e) (least_has t h))
 
-lacks_first : (xs ys : List ℕ) (m : ℕ) → IsFalse (has (xs ++ ys) m) → IsFalse (has xs m)
+pub lacks_first : (xs ys : List ℕ) (m : ℕ) → IsFalse (has (xs ++ ys) m) → IsFalse (has xs m)
 lacks_first xs ys m h = elim (cases_Bool (has xs m)) [ inl k ↦ absurd (both_ways (has (xs ++ ys) m) h (has_append_left xs ys m k)) | inr k ↦ k ]
 
-lacks_others : (xs ys : List ℕ) (m : ℕ) → IsFalse (has (xs ++ ys) m) → IsFalse (has ys m)
+pub lacks_others : (xs ys : List ℕ) (m : ℕ) → IsFalse (has (xs ++ ys) m) → IsFalse (has ys m)
 lacks_others xs ys m h = elim (cases_Bool (has ys m)) [ inl k ↦ absurd (both_ways (has (xs ++ ys) m) h (has_append_right xs ys m k)) | inr k ↦ k ]
 
 -- the later trees lack the least column of the first
-others_lack : (t : Outline) (ts : Forest) → AreTrees (tree_and t ts) → IsFalse (has (leaves_of ts) (least t))
+pub others_lack : (t : Outline) (ts : Forest) → AreTrees (tree_and t ts) → IsFalse (has (leaves_of ts) (least t))
 others_lack t ts h = apart (leaves t) (leaves_of ts) (least t) (h.1 (least t)) (least_has t h.0.0)
 
 -- each of the trees is canonical
-all_canonical : (xs : List Arranged) → AreTrees (forest (map outline_in xs)) → AreCanonical (forest (map outline_in xs))
-all_canonical [] h = tt
-all_canonical (x ∷ xs) h =
-    (x.canonical (first_tree (outline_in x) (forest (map outline_in xs)) h), all_canonical xs (other_trees (outline_in x) (forest (map outline_in xs)) h))
+pub all_canonical : (ts : Forest) → AreCanonicalIfTrees ts → AreTrees ts → AreCanonical ts
+all_canonical no_tree k h = tt
+all_canonical (tree_and t ts) k h = (k.0 (first_tree t ts h), all_canonical ts k.1 (other_trees t ts h))
+
+each_canonical : (xs : List Arranged) → AreCanonicalIfTrees (forest (map outline_in xs))
+each_canonical [] = tt
+each_canonical (x ∷ xs) = (x.canonical, each_canonical xs)
 
 -- nodes over such trees
 pub canonical_leaf : (a : ℕ) → CanonicalIfTree (outline_of (Leaf a))
@@ -78,24 +82,13 @@ least_leaf a = sym (ap least (outline_of-Leaf a))
 pub outline_over_P : (v : Vec Tree Global) (xs : List Arranged) → map outline_of v.items ≡ map outline_in xs → outline_of (P v) ≡ p_node (forest (map outline_in xs))
 outline_over_P v xs e = outline_of-P v ∙ ap (λ ts. p_node (forest ts)) e
 
-pub outline_over_Q : (v : Vec Tree Global) (xs : List Arranged) → map outline_of v.items ≡ map outline_in xs → outline_of (Q v) ≡ q_node (forest (map outline_in xs))
-outline_over_Q v xs e = outline_of-Q v ∙ ap (λ ts. q_node (forest ts)) e
-
 pub canonical_P : (v : Vec Tree Global) (xs : List Arranged) → map outline_of v.items ≡ map outline_in xs →
     (AreTrees (forest (map outline_in xs)) → IsStrictlyIncreasing (leasts (forest (map outline_in xs)))) → CanonicalIfTree (outline_of (P v))
 canonical_P v xs e h =
-    subst CanonicalIfTree (sym (outline_over_P v xs e)) (λ t. let ts : AreTrees (forest (map outline_in xs)) = (t.0.1, t.1) in (h ts, all_canonical xs ts))
-
-pub canonical_Q : (v : Vec Tree Global) (xs : List Arranged) → map outline_of v.items ≡ map outline_in xs →
-    (AreTrees (forest (map outline_in xs)) → 2 ≤ count (forest (map outline_in xs)) → EndsRise (leasts (forest (map outline_in xs)))) → CanonicalIfTree (outline_of (Q v))
-canonical_Q v xs e h =
-    subst CanonicalIfTree (sym (outline_over_Q v xs e)) (λ t. let ts : AreTrees (forest (map outline_in xs)) = (t.0.1, t.1) in (h ts (omega (arith, t.0.0)), all_canonical xs ts))
+    subst CanonicalIfTree (sym (outline_over_P v xs e)) (λ t. let ts : AreTrees (forest (map outline_in xs)) = (t.0.1, t.1) in (h ts, all_canonical (forest (map outline_in xs)) (each_canonical xs) ts))
 
 pub least_P : (v : Vec Tree Global) (xs : List Arranged) (m : ℕ) → map outline_of v.items ≡ map outline_in xs → m ≡ least_of (forest (map outline_in xs)) → m ≡ least (outline_of (P v))
 least_P v xs m e h = h ∙ sym (ap least (outline_over_P v xs e))
-
-pub least_Q : (v : Vec Tree Global) (xs : List Arranged) (m : ℕ) → map outline_of v.items ≡ map outline_in xs → m ≡ least_of (forest (map outline_in xs)) → m ≡ least (outline_of (Q v))
-least_Q v xs m e h = h ∙ sym (ap least (outline_over_Q v xs e))
 
 -- the least of the least columns
 abbrev pub key : Arranged → ℕ
@@ -143,64 +136,6 @@ rising (x ∷ y ∷ ys) h k =
     (omega (arith, h 0 1 x (omega arith) (omega arith), x.is_least, y.is_least, other))
     (rising (y ∷ ys) (λ i j d l n. h (suc i) (suc j) d (omega arith) (omega arith)) (other_trees (outline_in x) (tree_and (outline_in y) ts) k))
 
--- by the two ends
-pub count_items : (xs : List Arranged) → count (forest (map outline_in xs)) ≡ length xs
-count_items [] = refl
-count_items (x ∷ xs) = omega (arith, count_items xs)
-
-leasts_long : (xs : List Arranged) → length (leasts (forest (map outline_in xs))) ≡ length xs
-leasts_long [] = refl
-leasts_long (x ∷ xs) = omega (arith, leasts_long xs)
-
-least_at : (xs : List Arranged) (i : ℕ) (d : Arranged) → i < length xs → get_or (leasts (forest (map outline_in xs))) i 0 ≡ key (get_or xs i d)
-least_at [] i d h = absurd (omega arith)
-least_at (x ∷ xs) zero d h = sym x.is_least
-least_at (x ∷ xs) (suc i) d h = least_at xs i d (omega arith)
-
-ends_rise : (xs : List Arranged) (d e : Arranged) → 2 ≤ length xs → key (get_or xs 0 d) < key (get_or xs (length xs - 1) e) →
-    EndsRise (leasts (forest (map outline_in xs)))
-ends_rise xs d e two h =
-    let ms = leasts (forest (map outline_in xs)) in
-    subst (λ n. get_or ms 0 0 < get_or ms (n - 1) 0) (sym (leasts_long xs))
-    (omega (arith, least_at xs 0 d (omega arith), least_at xs (length xs - 1) e (omega arith), h))
-
-ends_turned : (xs : List Arranged) (d e : Arranged) → 2 ≤ length xs → key (get_or xs (length xs - 1) e) < key (get_or xs 0 d) → EndsRise (leasts (forest (map outline_in (reverse xs))))
-ends_turned xs d e two h =
-    let n = length xs - 1 in
-    let long : length (reverse xs) ≡ length xs = length-reverse xs in
-    let zero_end : length xs - 1 - 0 ≡ n = omega arith in
-    let last_end : length xs - 1 - n ≡ 0 = omega arith in
-    let first : get_or (reverse xs) 0 e ≡ get_or xs n e = get_or-reverse xs 0 e (omega arith) ∙ ap (λ i. get_or xs i e) zero_end in
-    let last : get_or (reverse xs) n d ≡ get_or xs 0 d = get_or-reverse xs n d (omega arith) ∙ ap (λ i. get_or xs i d) last_end in
-    ends_rise (reverse xs) e d (omega arith) (rw (long, first, last) h)
-
--- the least columns of the first and the last of two or more trees differ
-ends_differ : (m : ℕ) (x : Arranged) (xs : List Arranged) (d : Arranged) → HaveArities (forest (map outline_in (x ∷ xs))) →
-    IsFalse (has (leaves_of (forest (map outline_in (x ∷ xs)))) m) → m ≢ key (get_or (x ∷ xs) (length xs) d)
-ends_differ m x [] d h lacks e = not_least m (outline_in x) h.0 (lacks_first (leaves (outline_in x)) [] m lacks) (e ∙ x.is_least)
-ends_differ m x (y ∷ ys) d h lacks e = ends_differ m y ys d h.1 (lacks_others (leaves (outline_in x)) (leaves_of (forest (map outline_in (y ∷ ys)))) m lacks) e
-
-ends_apart : (xs : List Arranged) (d e : Arranged) → 2 ≤ length xs → AreTrees (forest (map outline_in xs)) → key (get_or xs 0 d) ≢ key (get_or xs (length xs - 1) e)
-ends_apart [] d e two h same = absurd (omega arith)
-ends_apart (x ∷ []) d e two h same = absurd (omega arith)
-ends_apart (x ∷ y ∷ ys) d e two h same =
-    let n : length (x ∷ y ∷ ys) - 1 ≡ suc (length ys) = omega arith in
-    ends_differ (least (outline_in x)) y ys e h.0.1 (others_lack (outline_in x) (forest (map outline_in (y ∷ ys))) h)
-    (sym x.is_least ∙ same ∙ ap (λ i. key (get_or (x ∷ y ∷ ys) i e)) n)
-
-pub left_alone : (xs : List Arranged) (n : ℕ) (first last : Arranged) → n ≡ length xs → 1 < n → first ≡ get_or xs 0 first → last ≡ get_or xs (n - 1) last →
-    key first ≤ key last → AreTrees (forest (map outline_in xs)) → EndsRise (leasts (forest (map outline_in xs)))
-left_alone xs n first last e two r s h k =
-    let differ : key (get_or xs 0 first) ≢ key (get_or xs (length xs - 1) last) = ends_apart xs first last (omega arith) k in
-    let below : key (get_or xs 0 first) ≤ key (get_or xs (length xs - 1) last) = subst (λ m. key (get_or xs 0 first) ≤ key (get_or xs (m - 1) last)) e (rw (← r, ← s) h) in
-    ends_rise xs first last (omega arith) (omega (arith, differ, below))
-
-pub turned_over : (xs new : List Arranged) (n : ℕ) (first last : Arranged) → n ≡ length xs → 1 < n → first ≡ get_or xs 0 first → last ≡ get_or xs (n - 1) last →
-    key last < key first → new ≡ reverse xs → EndsRise (leasts (forest (map outline_in new)))
-turned_over xs new n first last e two r s h w =
-    subst (λ ys. EndsRise (leasts (forest (map outline_in ys)))) (sym w)
-    (ends_turned xs first last (omega arith) (subst (λ m. key (get_or xs (m - 1) last) < key (get_or xs 0 first)) e (rw (← r, ← s) h)))
-
 -- the walk
 pub equivalent_push : (ts us : List Outline) (t u : Outline) → AreEquivalent (forest ts) us → IsEquivalent t u → AreEquivalent (forest (ts ++ t ∷ [])) (us ++ u ∷ [])
 equivalent_push [] [] t u h k = (k, tt)
@@ -208,29 +143,31 @@ equivalent_push [] (v ∷ us) t u h k = absurd h
 equivalent_push (s ∷ ts) [] t u h k = absurd h
 equivalent_push (s ∷ ts) (v ∷ us) t u h k = (h.0, equivalent_push ts us t u h.1 k)
 
+pub equivalent_more : {B : Type 0} (g : B → Outline) (ts : List B) (us new : List Outline) (i : ℕ) (d t : B) (u : Outline) → i < length ts → t ≡ get_or ts i d →
+    new ≡ us ++ u ∷ [] → AreEquivalent (forest (map g (take i ts))) us → IsEquivalent (g t) u → AreEquivalent (forest (map g (take (i + 1) ts))) new
+equivalent_more g ts us new i d t u h r e k m =
+    subst (λ ss. AreEquivalent (forest ss) new) (sym (map_more g ts i d h))
+    (subst (AreEquivalent (forest (map g (take i ts) ++ g (get_or ts i d) ∷ []))) (sym e)
+    (equivalent_push (map g (take i ts)) us (g (get_or ts i d)) u k (subst (λ c. IsEquivalent (g c) u) r m)))
+
 pub equivalent_step : {A : Type 0} (f : A → Outline) (ts : List Tree) (xs new : List A) (i : ℕ) (t : Tree) (x : A) → i < length ts → t ≡ get_or ts i t → new ≡ xs ++ x ∷ [] →
     AreEquivalent (forest (map outline_of (take i ts))) (map f xs) → IsEquivalent (outline_of t) (f x) → AreEquivalent (forest (map outline_of (take (i + 1) ts))) (map f new)
-equivalent_step f ts xs new i t x h r e k m =
-    subst (λ ss. AreEquivalent (forest ss) (map f new)) (sym (map_more outline_of ts i t h))
-    (subst (λ us. AreEquivalent (forest (map outline_of (take i ts) ++ outline_of (get_or ts i t) ∷ [])) us) (sym (ap (map f) e ∙ map-append f xs (x ∷ [])))
-    (equivalent_push (map outline_of (take i ts)) (map f xs) (outline_of (get_or ts i t)) (f x) k (subst (λ c. IsEquivalent (outline_of c) (f x)) r m)))
+equivalent_step f ts xs new i t x h r e =
+    equivalent_more outline_of ts (map f xs) (map f new) i t t (f x) h r (ap (map f) e ∙ map-append f xs (x ∷ []))
 
 pub equivalent_leaf : (t : Tree) (u : Outline) (a : ℕ) → t ≡ Leaf a → u ≡ leaf a → IsEquivalent (outline_of t) u
 equivalent_leaf t u a e k = rw (e, outline_of-Leaf a) k
 
-pub equivalent_P : (t : Tree) (u : Outline) (v : Vec Tree Global) (ts : List Tree) (xs ys : List Arranged) → t ≡ P v → ts ≡ v.items →
-    AreEquivalent (forest (map outline_of ts)) (map outline_in xs) → IsPermutation xs ys → u ≡ p_node (forest (map outline_in ys)) → IsEquivalent (outline_of t) u
-equivalent_P t u v ts xs ys e s h m k =
-    rw (e, outline_of-P v, ← s) (map outline_in xs, map outline_in ys, h, IsPermutation-map outline_in xs ys m, k)
+pub equivalent_P : (t : Tree) (u : Outline) (v : Vec Tree Global) (ts : List Tree) (us : List Outline) → t ≡ P v → ts ≡ v.items →
+    AreEquivalent (forest (map outline_of ts)) us → IsEquivalent (p_node (forest us)) u → IsEquivalent (outline_of t) u
+equivalent_P t u v ts us e s h k = rw (e, outline_of-P v, ← s) (turned_P (forest (map outline_of ts)) us u h k)
 
-pub equivalent_Q : (t : Tree) (u : Outline) (v : Vec Tree Global) (ts : List Tree) (xs ys : List Arranged) → t ≡ Q v → ts ≡ v.items →
-    AreEquivalent (forest (map outline_of ts)) (map outline_in xs) → (ys ≡ xs) ⊎ (ys ≡ reverse xs) → u ≡ q_node (forest (map outline_in ys)) → IsEquivalent (outline_of t) u
-equivalent_Q t u v ts xs ys e s h m k =
-    rw (e, outline_of-Q v, ← s) (
-      map outline_in xs,
-      h,
-      elim m [
-        | inl f ↦ inl (k ∙ ap (λ zs. q_node (forest (map outline_in zs))) f)
-        | inr f ↦ inr (k ∙ ap (λ zs. q_node (forest (map outline_in zs))) f ∙ ap (λ us. q_node (forest us)) (map-reverse outline_in xs))
-      ],
-    )
+pub equivalent_Q : (t : Tree) (u : Outline) (v : Vec Tree Global) (ts : List Tree) (us : List Outline) → t ≡ Q v → ts ≡ v.items →
+    AreEquivalent (forest (map outline_of ts)) us → IsEquivalent (q_node (forest us)) u → IsEquivalent (outline_of t) u
+equivalent_Q t u v ts us e s h k = rw (e, outline_of-Q v, ← s) (turned_Q (forest (map outline_of ts)) us u h k)
+
+-- the P-node over trees that have been put in order
+pub sorted_P : (xs ys : List Arranged) (u : Outline) → IsPermutation xs ys → u ≡ p_node (forest (map outline_in ys)) → IsEquivalent (p_node (forest (map outline_in xs))) u
+sorted_P xs ys u m k =
+    let us = map outline_in xs in
+    (us, map outline_in ys, subst (AreEquivalent (forest us)) (trees-forest us) (are_equivalent_refl (forest us)), IsPermutation-map outline_in xs ys m, k)

@@ -5,9 +5,10 @@ pub mod Shown
 pub mod Universal
 pub mod Frontiers
 pub mod AllOrders
-pub mod Canonical
 pub mod Equivalent
 pub mod Turnings
+pub mod Canonical
+pub mod QNodes
 pub mod Texts
 pub mod Moves
 pub mod Runs

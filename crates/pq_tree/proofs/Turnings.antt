@@ -125,6 +125,13 @@ mutual
   are_equivalent_trans (tree_and t ts) (u ∷ us) [] h k = absurd k
   are_equivalent_trans (tree_and t ts) (u ∷ us) (v ∷ vs) h k = (equivalent_trans t u v h.0 k.0, are_equivalent_trans ts us vs h.1 k.1)
 
+-- a node over trees that are turned each
+pub turned_P : (ts : Forest) (us : List Outline) (u : Outline) → AreEquivalent ts us → IsEquivalent (p_node (forest us)) u → IsEquivalent (p_node ts) u
+turned_P ts us u h k = equivalent_trans (p_node ts) (p_node (forest us)) u (us, us, h, IsPermutation-refl us, refl) k
+
+pub turned_Q : (ts : Forest) (us : List Outline) (u : Outline) → AreEquivalent ts us → IsEquivalent (q_node (forest us)) u → IsEquivalent (q_node ts) u
+turned_Q ts us u h k = equivalent_trans (q_node ts) (q_node (forest us)) u (us, h, inl refl) k
+
 -- a turned tree may be turned back
 mutual
   pub equivalent_sym : (t u : Outline) → IsEquivalent t u → IsEquivalent u t

@@ -46,3 +46,8 @@ abbrev mutual
 -- canonical, unless a node has too few children or a column stands twice
 abbrev pub CanonicalIfTree : Outline → Type 0
 CanonicalIfTree t = IsTree t → IsCanonical t
+
+-- so each of the trees
+abbrev pub AreCanonicalIfTrees : Forest → Type 0
+AreCanonicalIfTrees no_tree = Unit {0}
+AreCanonicalIfTrees (tree_and t ts) = CanonicalIfTree t × AreCanonicalIfTrees ts

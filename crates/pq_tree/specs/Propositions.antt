@@ -6,7 +6,7 @@ use mathlib.Core.HLevel.{Π_prop}
 use native.Mathlib.Nat.{ℕ_set}
 use Rattle.pq_tree.specs.Outline.{Outline, Forest, leaf, p_node, q_node, no_tree, tree_and}
 use Rattle.pq_tree.specs.Proper.{HasArities, HaveArities, IsProper}
-use Rattle.pq_tree.specs.Canonical.{leasts, IsCanonical, AreCanonical, CanonicalIfTree}
+use Rattle.pq_tree.specs.Canonical.{leasts, IsCanonical, AreCanonical, CanonicalIfTree, AreCanonicalIfTrees}
 
 mutual
   HasArities-prop : (t : Outline) → IsProp (HasArities t)
@@ -36,3 +36,7 @@ mutual
 
 pub CanonicalIfTree-prop : (t : Outline) → IsProp (CanonicalIfTree t)
 CanonicalIfTree-prop t = Π_prop (λ _. IsCanonical-prop t)
+
+pub AreCanonicalIfTrees-prop : (ts : Forest) → IsProp (AreCanonicalIfTrees ts)
+AreCanonicalIfTrees-prop no_tree = Unit-prop
+AreCanonicalIfTrees-prop (tree_and t ts) = ×_prop (CanonicalIfTree-prop t) (AreCanonicalIfTrees-prop ts)

@@ -1,35 +1,52 @@
-//! The canonical form of a tree, in one walk.
+//! Leaves and P-nodes in canonical form, and the walk that gives a tree its canonical form.
 
-ghost use Rattle.std.specs.Prelude.{◌≡◌, ◌⊎◌, ◌≤◌, map, reverse, IfOk, IsPermutation};
+ghost use Rattle.std.specs.Prelude.{◌≡◌, map, IfOk, IsPermutation};
 ghost use Rattle.std.specs.List.Sorted.{IsStrictlyIncreasing};
-ghost use Rattle.pq_tree.specs.Outline.{leaf, p_node, q_node};
-ghost use Rattle.pq_tree.specs.Forests.{forest, count};
+ghost use Rattle.pq_tree.specs.Outline.{leaf, p_node};
+ghost use Rattle.pq_tree.specs.Forests.{forest};
 ghost use Rattle.pq_tree.specs.Proper.{outline_of, AreTrees};
 ghost use Rattle.pq_tree.specs.Equivalent.{IsEquivalent, AreEquivalent};
-ghost use Rattle.pq_tree.specs.Canonical.{leasts, EndsRise, least_of};
-ghost use Rattle.pq_tree.specs.Arranged.{outline_in};
+ghost use Rattle.pq_tree.specs.Canonical.{leasts, least_of};
+ghost use Rattle.pq_tree.specs.Arranged.{outline_in, children_in};
 
 use crate::arranged::Arranged;
+use crate::q_children::QChildren;
 use crate::{NoMemory, Tree};
 use std::alloc::Global;
+
+impl Arranged {
+    /// The leaf of a column.
+    pub fn leaf(column: u32) -> Arranged
+        ensures { outline_in result ≡ leaf column }
+    {
+        Arranged {
+            tree: Tree::Leaf(column),
+            least_column: column,
+        }
+    }
+
+    /// The P-node over these trees, in canonical form: they are put in rising order of their least columns.
+    ///
+    /// # Errors
+    ///
+    /// `NoMemory` where the allocator has no room for the new list.
+    pub fn p(alloc: Global, mut children: Vec<Arranged>) -> Result<Arranged, NoMemory>
+        ensures { IfOk result (λ a. IsEquivalent (p_node (forest (map outline_in children.items))) (outline_in a)) }
+    {
+        sort_by_least(&mut children);
+        arranged_p(alloc, children)
+    }
+}
 
 /// The tree in its canonical form. Each subtree's least column comes back with it, so each node is looked at once.
 #[cycle(arrange)]
 pub fn arranged_tree(alloc: Global, tree: &Tree) -> Result<Arranged, NoMemory>
-    ensures { IfOk result (λ a. IsEquivalent (outline_of tree.now) (outline_of a.tree)) }
+    ensures { IfOk result (λ a. IsEquivalent (outline_of tree.now) (outline_in a)) }
 {
     match tree {
-        Tree::Leaf(column) => Ok(arranged_leaf(*column)),
-        Tree::P(children) => {
-            let mut children = arranged_trees(alloc, children)?;
-            sort_by_least(&mut children);
-            arranged_p(alloc, children)
-        }
-        Tree::Q(children) => {
-            let mut children = arranged_trees(alloc, children)?;
-            turn_up(&mut children);
-            arranged_q(alloc, children)
-        }
+        Tree::Leaf(column) => Ok(Arranged::leaf(*column)),
+        Tree::P(children) => Arranged::p(alloc, arranged_trees(alloc, children)?),
+        Tree::Q(children) => Ok(arranged_children(alloc, children)?.into_q()),
     }
 }
 
@@ -45,33 +62,24 @@ fn arranged_trees(alloc: Global, trees: &[Tree]) -> Result<Vec<Arranged>, NoMemo
     Ok(all)
 }
 
+// The same as the children of a Q-node.
+#[cycle(arrange)]
+fn arranged_children(alloc: Global, trees: &[Tree]) -> Result<QChildren, NoMemory>
+    ensures { IfOk result (λ q. AreEquivalent (forest (map outline_of trees.now)) (children_in q)) }
+{
+    let mut all = QChildren::with_capacity(alloc, trees.len())?;
+    for tree in trees {
+        all.push(arranged_tree(alloc, tree)?)?;
+    }
+    Ok(all)
+}
+
 // Puts the trees in rising order of their least columns.
 fn sort_by_least(trees: &mut Vec<Arranged>)
     ensures moved { IsPermutation trees.old.items trees.new.items }
     ensures rising { let ts = forest (map outline_in trees.new.items) in AreTrees ts → IsStrictlyIncreasing (leasts ts) }
 {
     trees.sort_unstable_by_key(|tree| tree.least_column);
-}
-
-// Reverses the trees where the least column of the last is below that of the first.
-fn turn_up(trees: &mut Vec<Arranged>)
-    ensures turned { (trees.new.items ≡ trees.old.items) ⊎ (trees.new.items ≡ reverse trees.old.items) }
-    ensures rise { let ts = forest (map outline_in trees.new.items) in AreTrees ts → 2 ≤ count ts → EndsRise (leasts ts) }
-{
-    let count = trees.len();
-    if count > 1 && trees[count - 1].least_column < trees[0].least_column {
-        trees.reverse();
-    }
-}
-
-// The leaf of a column.
-fn arranged_leaf(column: u32) -> Arranged
-    ensures { outline_in result ≡ leaf column }
-{
-    Arranged {
-        tree: Tree::Leaf(column),
-        least_column: column,
-    }
 }
 
 // The P-node over trees that stand in rising order.
@@ -81,16 +89,6 @@ fn arranged_p(alloc: Global, children: Vec<Arranged>) -> Result<Arranged, NoMemo
 {
     let least_column = least_of_all(&children);
     let tree = Tree::P(bare_trees(alloc, children)?);
-    Ok(Arranged { tree, least_column })
-}
-
-// The Q-node over trees of which the first and the last rise.
-fn arranged_q(alloc: Global, children: Vec<Arranged>) -> Result<Arranged, NoMemory>
-    requires { let ts = forest (map outline_in children.items) in AreTrees ts → 2 ≤ count ts → EndsRise (leasts ts) }
-    ensures { IfOk result (λ a. outline_in a ≡ q_node (forest (map outline_in children.items))) }
-{
-    let least_column = least_of_all(&children);
-    let tree = Tree::Q(bare_trees(alloc, children)?);
     Ok(Arranged { tree, least_column })
 }
 

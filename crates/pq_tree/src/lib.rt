@@ -19,10 +19,13 @@ ghost use Rattle.pq_tree.specs.Text.{tree_text};
 mod arrange;
 mod arranged;
 mod parse;
+mod q_children;
 mod write;
 
+pub use arranged::Arranged;
 use column_order::COLUMN_BOUND;
 pub use parse::one_tree;
+pub use q_children::QChildren;
 pub use std::alloc::AllocError as NoMemory;
 use std::alloc::Global;
 
@@ -101,6 +104,7 @@ pub struct PqTree {
 
 impl PqTree {
     ghost use Rattle.pq_tree.specs.PqTree.{column_count, outline};
+    ghost use Rattle.pq_tree.specs.Arranged.{outline_in};
 
     /// The tree over the columns 1 to c.
     pub fn from_tree(c: u32, tree: Tree) -> PqTree
@@ -109,6 +113,19 @@ impl PqTree {
         ensures tree { outline result ≡ outline_of tree }
     {
         PqTree { columns: c, tree }
+    }
+
+    /// The canonical tree over the columns 1 to c that was made from its parts.
+    pub fn from_arranged(c: u32, arranged: Arranged) -> PqTree
+        requires { IsProper c (outline_in arranged) }
+        ensures columns { column_count result ≡ c }
+        ensures tree { outline result ≡ outline_in arranged }
+        ensures canonical { IsCanonical (outline result) }
+    {
+        PqTree {
+            columns: c,
+            tree: arranged.tree,
+        }
     }
 
     /// The tree itself, handed over without a copy.
@@ -204,10 +221,7 @@ impl PqTree {
         ensures frontiers { IfOk result (λ t. (o : List ℕ) → IsFrontier (outline_of tree.now) o ↔ IsFrontier (outline t) o) }
     {
         let arranged = arrange::arranged_tree(alloc, tree)?;
-        Ok(PqTree {
-            columns: c,
-            tree: arranged.tree,
-        })
+        Ok(PqTree::from_arranged(c, arranged))
     }
 
     /// Appends the text of the tree: a leaf is its column as a plain number, a P-node its children between `(` and `)`,

@@ -19,7 +19,9 @@ use std::alloc::Global;
 pub fn closed_rows(alloc: Global, g: &Graph) -> Result<Matrix, NoMemory>
     ensures { IfOk result (λ m. m ≡ closed_of g.now) }
 {
-    let mut rows = Matrix::new(alloc, g.vertices())?;
+    let count = g.vertices() as usize;
+    let ones = (g.lists().ones() as usize).saturating_add(count);
+    let mut rows = Matrix::with_room(alloc, g.vertices(), count, ones)?;
     let mut row = Vec::new(alloc);
     for before in 0..g.vertices() {
         list_closed(&mut row, g, before + 1)?;

@@ -3,7 +3,6 @@
 mod clones;
 mod dense;
 mod graph_files;
-mod graph_pieces;
 mod graphs;
 mod lines;
 mod pieces;

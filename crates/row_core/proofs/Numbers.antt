@@ -8,13 +8,8 @@ use Rattle.std.specs.List.Sorted.{IsStrictlyIncreasing}
 use Rattle.row_model.specs.Graph.{row_at}
 use Rattle.row_model.specs.Rows.{Ascends}
 use Rattle.row_model.proofs.Ascending.{ascends_lower}
+use Rattle.row_model.proofs.PieceLemmas.{above_low}
 use Rattle.core_text.specs.Cores.{AreRowNumbers, rows_at, but}
-
--- numbers from some index on are above the low end
-above_at : (n low : ℕ) (set : List ℕ) (i d : ℕ) → Ascends n low set → i < length set → low < get_or set i d
-above_at n low [] i d h l = absurd (omega arith)
-above_at n low (k ∷ set) zero d h l = h.0
-above_at n low (k ∷ set) (suc i) d h l = omega (arith, above_at n k set i d h.2 (omega arith), h.0)
 
 -- a number at an index is one of 1 to n
 pub within_at : (n low : ℕ) (set : List ℕ) (i d : ℕ) → Ascends n low set → i < length set → (low < get_or set i d) × (get_or set i d ≤ n)
@@ -54,7 +49,7 @@ pub but_at : (n low : ℕ) (set : List ℕ) (i : ℕ) → Ascends n low set → 
 but_at n low [] i h l = absurd (omega arith)
 but_at n low (a ∷ set) zero h l = rw (eq-eqb a a refl) (but_low n a a set h.2 (omega arith))
 but_at n low (a ∷ set) (suc i) h l =
-    let above : a < get_or set i 0 = above_at n a set i 0 h.2 (omega arith) in
+    let above : a < get_or set i 0 = above_low n a set i 0 h.2 (omega arith) in
     let e : suc i + 1 ≡ suc (i + 1) = omega arith in
     rw (ne_eqb a (get_or set i 0) (λ e. absurd (omega (arith, e, above))), e) (ap (λ xs. a ∷ xs) (but_at n a set i h.2 (omega arith)))
 

@@ -54,6 +54,25 @@ impl Matrix {
         })
     }
 
+    /// A matrix of so many columns, with no row. About so many rows and ones are expected: the answers are the same
+    /// with any numbers, and so is what may be added.
+    ///
+    /// # Errors
+    ///
+    /// `NoMemory` where there is no memory for it.
+    pub fn with_room(alloc: Global, columns: u32, rows: usize, ones: usize) -> Result<Self, NoMemory>
+        requires { (1 ≤ columns) × (columns ≤ COLUMN_BOUND) }
+        ensures { IfOk result (λ m. m ≡ record { columns = columns; rows = [] }) }
+    {
+        let mut bounds = Vec::with_capacity(alloc, rows.saturating_add(1))?;
+        bounds.push(0)?;
+        Ok(Matrix {
+            column_count: columns,
+            members: Vec::with_capacity(alloc, ones)?,
+            bounds,
+        })
+    }
+
     /// Adds a last row. On an error the matrix is as before.
     ///
     /// # Errors

@@ -1,6 +1,6 @@
 -- The reply with the rows of a matrix that are to blame.
-use Rattle.std.proofs.Common.{◌≡◌, ◌∙◌, ℕ, ◌+◌, ◌*◌, ◌≤◌, List, length, Some, refl, sym, ap, subst, arith}
-use Rattle.std.specs.Prelude.{Result, Ok, Err, IsErrAnd}
+use Rattle.std.proofs.Common.{◌≡◌, ◌∙◌, ℕ, ◌+◌, ◌*◌, ◌≤◌, List, length, Some, refl, sym, ap, subst, inl, inr, arith}
+use Rattle.std.specs.Prelude.{Result, Ok, Err, IfOk, IsErrAnd}
 use Rattle.std.proofs.Math.Nat.{mul-le-mul}
 use Rattle.column_order.specs.Orders.{HasValidOrder}
 use Rattle.row_model.specs.declared.kind.Kind.{Kind}
@@ -17,6 +17,8 @@ use Rattle.c1p_solve.specs.Totals.{search_steps, answer_steps}
 use Rattle.solve_replies.specs.Steps.{made_status, solver_costs, FindsCoreWithin}
 use Rattle.verdict_text.specs.Verdict.{Claim, yes_claim, no_claim}
 use Rattle.instance_model.specs.Instance.{InstanceValue, plain, instance_kind}
+use Rattle.verdict_replies.specs.Cores.{IsCoreText}
+use Rattle.solve_replies.specs.Cores.{IsCoreReply}
 use Rattle.verdict_replies.specs.Verdicts.{IsClaimOf, status_of, IsVerdictReply}
 
 -- the instance is that matrix
@@ -31,6 +33,22 @@ yes_reply kind m status text o r =
     is_yes : (claim : Claim) → IsClaimOf (plain kind m) claim → 0 ≡ status_of claim
     is_yes (yes_claim value) h = refl
     is_yes (no_claim s lines) h = absurd (h.0.none o)
+
+-- what is made of a core is the reply with it, and what is made of the tree that with the verdict, or memory was refused
+pub core_told : {E : Type 0} (kind : Kind) (i : InstanceValue) (m : RowList) (made : Result Reply E) → i ≡ plain kind m → (HasValidOrder m.columns m.rows → ⊥) → IfOk made (λ reply. reply.status ≡ 0) →
+    IfOk made (λ reply. IsCoreText kind m reply.text.items) → IfOk made (λ reply. (n : RowList) × (i ≡ plain kind n) × IsCoreReply kind n reply.status reply.text.items)
+core_told kind i m (Ok reply) is none status text = (m, is, inl (none, status, text))
+core_told kind i m (Err e) is none status text = tt
+
+pub yes_told : {E : Type 0} (kind : Kind) (i : InstanceValue) (m : RowList) (made : Result Reply E) → i ≡ plain kind m → HasValidOrder m.columns m.rows → IfOk made (λ reply. reply.status ≡ 1) →
+    IfOk made (λ reply. (k : Kind) → i ≡ plain k m → IsVerdictReply (plain k m) 0 reply.text.items) → IfOk made (λ reply. (n : RowList) × (i ≡ plain kind n) × IsCoreReply kind n reply.status reply.text.items)
+yes_told kind i m (Ok reply) is some status text = (m, is, inr (some, status, text kind is))
+yes_told kind i m (Err e) is some status text = tt
+
+-- what was made of what was found has its status, or memory was refused
+pub made_of_core : {E : Type 0} (made : Result Reply E) (m : RowList) (k s n : ℕ) → IfOk made (λ reply. reply.status ≡ k) → FindsCoreWithin m k s n → FindsCoreWithin m (made_status (λ reply. reply.status) made) s n
+made_of_core (Ok reply) m k s n is w = subst (λ j. FindsCoreWithin m j s n) (sym is) w
+made_of_core (Err e) m k s n is w = record { none = λ f. absurd (omega (arith, f)); core = λ f. absurd (omega (arith, f)); most = w.most }
 
 -- no larger matrix costs the solver more
 costs_monotone : AreMonotone solver_costs

@@ -10,6 +10,7 @@ use Rattle.pq_tree.specs.Proper.{IsProper}
 use Rattle.pq_tree.specs.declared.PqTree.{PqTree}
 use Rattle.c1p_solve.specs.Answers.{HasAllOrders}
 use Rattle.text_parts.specs.Numbered.{numbered}
+use Rattle.text_parts.proofs.PrintLaws.{numbered-append}
 use Rattle.verdict_text.specs.Text.{kind_line, columns_line, side_text}
 use Rattle.verdict_replies.specs.Verdicts.{ShowsAllOrders}
 use Rattle.solve_replies.specs.Sessions.{IsSessionText, Outcome, accepted, refused, IsOutcome, matrix_after, refusals_after, AreOutcomes, matrix_at_end, outcome_text, session_text}
@@ -46,13 +47,6 @@ same_count m refusals [] (o ∷ os) all = absurd all
 same_count m refusals (r ∷ done) [] all = absurd all
 same_count m refusals (r ∷ done) (o ∷ os) all = omega (arith, same_count (matrix_after m r o) (refusals_after refusals o) done os all.1)
 
--- the text of one item more
-numbered-push : {A : Type 0} (text : ℕ → A → List ℕ) (i : ℕ) (xs : List A) (x : A) → numbered text i (xs ++ x ∷ []) ≡ numbered text i xs ++ text (i + length xs) x
-numbered-push text i [] x = append-nil (text i x) ∙ ap (λ k. text k x) (omega arith)
-numbered-push text i (y ∷ xs) x =
-    ap (λ z. text i y ++ z) (numbered-push text (i + 1) xs x) ∙ sym (append_assoc (text i y) (numbered text (i + 1) xs) (text (i + 1 + length xs) x))
-    ∙ ap (λ k. (text i y ++ numbered text (i + 1) xs) ++ text k x) (omega arith)
-
 pub taken_none : (m : RowList) (text : List ℕ) → HasTaken m [] m 0 0 text text
 taken_none m text = record { outcomes = []; in_turn = tt; matrix_is = refl; count_is = refl; are_met = refl; text_is = sym (append-nil text) }
 
@@ -71,7 +65,7 @@ taken_more m done now refusals met t old text i row after count new all at one t
       count_is = one.count_is ∙ ap (λ n. refusals_after n o) all.count_is ∙ sym (more_refusals 0 outcomes o);
       are_met = all_met m 0 done outcomes row o t met refusals all.in_turn (λ e. subst (λ (k : RowList). IsTreeNow k t) all.matrix_is (tree (one.count_is ∙ e))) all.are_met;
       text_is = one.text_is ∙ ap (λ t. t ++ outcome_text i o) all.text_is ∙ append_assoc old (numbered outcome_text 1 outcomes) (outcome_text i o)
-          ∙ ap (λ t. old ++ t) (ap (λ n. numbered outcome_text 1 outcomes ++ outcome_text n o) number ∙ sym (numbered-push outcome_text 1 outcomes o));
+          ∙ ap (λ t. old ++ t) (ap (λ n. numbered outcome_text 1 outcomes ++ outcome_text n o) number ∙ sym (numbered-append outcome_text 1 outcomes o));
     }
 
 -- what one more row changes

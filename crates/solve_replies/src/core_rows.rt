@@ -15,7 +15,7 @@ ghost use Rattle.solve_replies.specs.Steps.{made_status, FindsCoreWithin};
 use crate::reply::told;
 use crate::verdicts::yes_on;
 use crate::{NoMemory, Solver};
-use core_text::{CoreText, print_core};
+use core_text::{Core, CoreText, print_core};
 use exact_tree::exact_law;
 use instance_model::Instance;
 use pq_tree::PqTree;
@@ -49,49 +49,44 @@ pub fn blame_reply<L: Ledger>(
         unreachable!()
     };
     match find_core(alloc, &mut Solver, m, steps)? {
-        Cored::Core(core) => {
-            let text = core_text(alloc, m, &CoreText::new(kind, m.columns(), core))?;
-            Ok(Reply { status: 0, text })
-        }
-        Cored::Has(tree) => {
-            let text = yes_text(alloc, instance, m, tree)?;
-            Ok(Reply { status: 1, text })
-        }
+        Cored::Core(core) => core_reply(alloc, kind, m, core),
+        Cored::Has(tree) => yes_reply(alloc, instance, m, tree),
     }
 }
 
-// The text of a core of a matrix.
-fn core_text(alloc: Global, m: &Matrix, core: &CoreText) -> Result<Vec<u8>, NoMemory>
-    requires columns { core.now.columns ≡ m.now.columns }
-    requires within { IsInstance (plain core.now.kind m.now) }
-    requires tells { TellsCore m.now core.now.parts }
-    requires short { IsShort m.now.columns core.now.parts.lines }
-    ensures { IfOk result (λ text. IsCoreText core.now.kind m.now text.items) }
+// The reply with a core of a matrix.
+fn core_reply(alloc: Global, kind: Kind, m: &Matrix, core: Core) -> Result<Reply, NoMemory>
+    requires within { IsInstance (plain kind m.now) }
+    requires tells { TellsCore m.now core }
+    requires short { IsShort m.now.columns core.lines }
+    ensures text { IfOk result (λ reply. IsCoreText kind m.now reply.text.items) }
+    ensures status { IfOk result (λ reply. reply.status ≡ 0) }
 {
     core_grammar_law();
-    // A matrix has a column.
-    let _columns = m.columns();
+    let core = CoreText::new(kind, m.columns(), core);
     let mut text = Vec::new(alloc);
-    print_core(core, &mut text)?;
-    Ok(text)
+    print_core(&core, &mut text)?;
+    Ok(Reply { status: 0, text })
 }
 
-// The text of the verdict on a matrix whose valid orders are those of a tree.
-fn yes_text(
+// The reply on a matrix whose valid orders are those of a tree: the text of its verdict.
+fn yes_reply(
     alloc: Global,
     instance: &Instance,
     m: &Matrix,
     tree: PqTree,
-) -> Result<Vec<u8>, NoMemory>
+) -> Result<Reply, NoMemory>
     requires within { IsInstance (instance_value instance.now) }
     requires matrix { (kind : Kind) × (instance_value instance.now ≡ plain kind m.now) }
     requires orders { IsTreeOfOrders m.now tree }
-    ensures { IfOk result (λ text. (kind : Kind)
+    ensures text { IfOk result (λ reply. (kind : Kind)
         → instance_value instance.now ≡ plain kind m.now
-        → IsVerdictReply (plain kind m.now) 0 text.items) }
+        → IsVerdictReply (plain kind m.now) 0 reply.text.items) }
+    ensures status { IfOk result (λ reply. reply.status ≡ 1) }
 {
     exact_law();
     leaves_law();
     let verdict = yes_on(alloc, instance, tree)?;
-    Ok(told(alloc, &verdict)?.text)
+    let text = told(alloc, &verdict)?.text;
+    Ok(Reply { status: 1, text })
 }

@@ -30,7 +30,6 @@ impl Draws {
 }
 
 // The rows that a number draws, one after another.
-#[derive(Drop)]
 pub struct DrawnRows {
     // What draws the ends of the next run.
     draws: Draws,
@@ -40,6 +39,18 @@ pub struct DrawnRows {
     positions: Vec<u32>,
     // Room for a row.
     row: Vec<u32>,
+}
+
+// By hand, so that a place where they are dropped proves one call and does not take their parts apart.
+impl Drop for DrawnRows {
+    fn drop(self) {
+        let DrawnRows {
+            draws: _draws,
+            order: _order,
+            positions: _positions,
+            row: _row,
+        } = self;
+    }
 }
 
 impl DrawnRows {

@@ -16,7 +16,8 @@ use std::alloc::Global;
 use step_count::{Ledger, Steps};
 use verdict_replies::Reply;
 
-/// The reply with the summary of the matrix that a number draws.
+/// The reply with the summary of the matrix that a number draws: its ones, and the nodes of the canonical tree of all
+/// its valid orders.
 ///
 /// # Errors
 ///
@@ -35,24 +36,6 @@ pub fn summary_reply<L: Ledger>(
     ensures steps { SolvesMatrixWithin (generated seed columns rows)
         (made_status (λ reply. reply.status) result) steps.old steps.new }
 {
-    let text = summary(alloc, seed, columns, rows, steps)?;
-    Ok(Reply { status: 0, text })
-}
-
-// The summary of the matrix that a number draws: its ones, and the nodes of the canonical tree of all its valid orders.
-fn summary<L: Ledger>(
-    alloc: Global,
-    seed: u64,
-    columns: u32,
-    rows: u32,
-    steps: &mut Steps<L>,
-) -> Result<Vec<u8>, NoMemory>
-    requires columns { (1 ≤ columns) × (columns ≤ MAX_COLUMNS) }
-    requires rows { rows ≤ MAX_ROWS }
-    ensures text { IfOk result (λ text. IsSummary seed columns rows text.items) }
-    ensures steps { SolvesMatrixWithin (generated seed columns rows) (made_status (λ text. 0) result)
-        steps.old steps.new }
-{
     let grown = grow(alloc, seed, columns, rows, steps)?;
     let mut nodes = Nodes { p: 0, q: 0 };
     count_nodes(grown.tree.root(), &mut nodes);
@@ -61,7 +44,10 @@ fn summary<L: Ledger>(
         "pq-gen 1\ncolumns {columns}\nrows {rows}\nones {ones}\nanswer yes\np {}\nq {}\nend\n",
         nodes.p, nodes.q
     )?;
-    Ok(text.into_bytes())
+    Ok(Reply {
+        status: 0,
+        text: text.into_bytes(),
+    })
 }
 
 // The tree of all valid orders of a drawn matrix, and how many ones it has.

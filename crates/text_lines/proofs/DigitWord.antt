@@ -29,13 +29,15 @@ lower_bytes a b c d p q r s =
     let same : a + 65536 * (b + 65536 * (c + 65536 * d)) ≡ ((d * 2 ^ 16 + c) * 2 ^ 16 + b) * 2 ^ 16 + a = omega arith in
     ap (λ n. bit_and n 71777214294589695) same ∙ omega (arith, first, second, third, last, one a, one b, one c)
 
+-- the lower parts of both halves of a word, where a mask keeps the lower part of a number
+pub lower_parts : (k m a b : ℕ) → ((n : ℕ) → bit_and n m ≡ n % suc m) → m < 2 ^ k → a < 2 ^ k → bit_and (b * 2 ^ k + a) (m * 2 ^ k + m) ≡ b % suc m * 2 ^ k + a % suc m
+lower_parts k m a b low few p = and_block k b m a m p few ∙ rw (low b, low a)
+
 -- the lower half of both parts of 32 bits
 lower_halves : (a b : ℕ) → a < 4294967296 → b < 4294967296 → bit_and (a + 4294967296 * b) 281470681808895 ≡ a % 65536 + 4294967296 * (b % 65536)
 lower_halves a b p q =
-    let one : (n : ℕ) → bit_and n 65535 ≡ n % 65536 = λ n. and_numeral n 65534 refl in
-    let both : bit_and (b * 2 ^ 32 + a) (65535 * 2 ^ 32 + 65535) ≡ bit_and b 65535 * 2 ^ 32 + bit_and a 65535 = and_block 32 b 65535 a 65535 p (omega arith) in
     let same : a + 4294967296 * b ≡ b * 2 ^ 32 + a = omega arith in
-    ap (λ n. bit_and n 281470681808895) same ∙ omega (arith, both, one a, one b)
+    ap (λ n. bit_and n 281470681808895) same ∙ lower_parts 32 65535 a b (λ n. and_numeral n 65534 refl) (omega arith) p ∙ omega arith
 
 abbrev joined_value : ℕ → ℕ
 joined_value word =

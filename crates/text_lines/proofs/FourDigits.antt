@@ -3,21 +3,19 @@ use Rattle.std.proofs.Common.{◌≡◌, ◌∙◌, ℕ, zero, suc, ◌+◌, ◌
 use Rattle.std.proofs.lemmas.Bool.{and_parts}
 use Rattle.std.proofs.lemmas.Bool.Decides.{nat_tests}
 use Rattle.std.proofs.lemmas.Grind.{common_steps, and_numeral}
-use Rattle.std.proofs.lemmas.Nat.{and_block}
 use Rattle.std.proofs.lemmas.List.{length-drop}
 use Rattle.std.specs.Char.{is_ascii_digit}
 use Rattle.std.specs.List.{list_all}
 use Rattle.std.specs.Prelude.{bit_and}
 use Rattle.std.specs.Simd.Lanes.{chunk, number_l}
 use Rattle.text_lines.specs.Words.{number_after}
+use Rattle.text_lines.proofs.DigitWord.{lower_parts}
 
 -- the lower half of both parts of 16 bits
 lower_bytes_of_two : (a b : ℕ) → a < 65536 → b < 65536 → bit_and (a + 65536 * b) 16711935 ≡ a % 256 + 65536 * (b % 256)
 lower_bytes_of_two a b p q =
-    let one : (n : ℕ) → bit_and n 255 ≡ n % 256 = λ n. and_numeral n 254 refl in
-    let both : bit_and (b * 2 ^ 16 + a) (255 * 2 ^ 16 + 255) ≡ bit_and b 255 * 2 ^ 16 + bit_and a 255 = and_block 16 b 255 a 255 p (omega arith) in
     let same : a + 65536 * b ≡ b * 2 ^ 16 + a = omega arith in
-    ap (λ n. bit_and n 16711935) same ∙ omega (arith, both, one a, one b)
+    ap (λ n. bit_and n 16711935) same ∙ lower_parts 16 255 a b (λ n. and_numeral n 254 refl) (omega arith) p ∙ omega arith
 
 -- four digits, joined to pairs and to the number
 pub four_joined : (a b c d word : ℕ) → a ≤ 9 → b ≤ 9 → c ≤ 9 → d ≤ 9 → word ≡ a + 256 * (b + 256 * (c + 256 * d))

@@ -110,17 +110,7 @@ fn other_marks(text: &[u8], at: usize) -> u64
     requires { at + 64 ≤ length text.now }
     ensures { result ≡ mask_l (map (λ byte. nat_le 10 ((byte + 208) % 256)) (chunk at 64 text.now)) }
 {
-    large_lanes(block_at(text, at))
-}
-
-// The 64 bytes from a place on, counted from the digit 0.
-#[inline(always)]
-fn block_at(text: &[u8], at: usize) -> u8x64
-    requires { at + 64 ≤ length text.now }
-    ensures lanes { result ≡ map (λ byte. (byte + 208) % 256) (chunk at 64 text.now) }
-    ensures len { length result ≡ 64 }
-{
-    u8x64::from_slice(&text[at..]) - u8x64::splat(b'0')
+    large_lanes(u8x64::from_slice(&text[at..]) - u8x64::splat(b'0'))
 }
 
 // A bit for each of 64 lanes, which is 1 where the lane is 10 or more.

@@ -110,6 +110,11 @@ arities_Q t v ts h e a =
     let all : HasArities (q_node (forest (map outline_of ts))) = subst HasArities same a in
     (omega (arith, all.0, count_forest (map outline_of ts), length-map ts outline_of), all.1)
 
+-- a Q-node has a group for each child, besides those of the children
+pub counted_Q : (t : Tree) (v : Vec Tree Global) (ts : List Tree) → t ≡ Q v → ts ≡ v.items → HasArities (outline_of t) →
+    length (groups (outline_of t)) ≡ length ts + length (groups_of (forest (map outline_of ts)))
+counted_Q t v ts h e a = omega (arith, count_Q t v ts h e, (arities_Q t v ts h e a).0)
+
 pub child_arities : (ts : List Tree) (i : ℕ) (t : Tree) → i < length ts → t ≡ get_or ts i t → HaveArities (forest (map outline_of ts)) → HasArities (outline_of t)
 child_arities [] i t h e a = absurd (omega arith)
 child_arities (u ∷ ts) zero t h e a = subst (λ (x : Tree). HasArities (outline_of x)) (sym e) a.0

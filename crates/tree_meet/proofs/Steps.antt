@@ -1,5 +1,5 @@
 -- One node of the walk: the rows of its children and of their neighbours, and the rows that are added.
-use Rattle.std.proofs.Common.{◌≡◌, ◌⊎◌, ◌∙◌, ℕ, zero, suc, ◌-◌, ◌<◌, ◌≤◌, List, [], ◌∷◌, ◌++◌, length, map, get_or, sym, ap, subst, inl, inr, arith, append_assoc, append-nil}
+use Rattle.std.proofs.Common.{◌≡◌, ◌⊎◌, ◌∙◌, ℕ, zero, suc, ◌+◌, ◌-◌, ◌<◌, ◌≤◌, List, [], ◌∷◌, ◌++◌, length, map, get_or, sym, ap, subst, inl, inr, arith, append_assoc, append-nil, length-append}
 use Rattle.std.proofs.lemmas.List.{length-map, map-append, get_or-map}
 use Rattle.std.specs.declared.vec.Vec.{Vec}
 use Rattle.std.specs.declared.alloc.Global.{Global}
@@ -54,6 +54,10 @@ with_rows m rows = record m { rows = m.rows ++ rows }
 
 with_more : (m : RowList) (rows others : List (List ℕ)) → with_rows (with_rows m rows) others ≡ with_rows m (rows ++ others)
 with_more m rows others = ap (λ (x : List (List ℕ)). record m { rows = x }) (append_assoc m.rows rows others)
+
+-- one row more
+pub one_row_more : (before after : List (List ℕ)) (row : List ℕ) → after ≡ before ++ row ∷ [] → length after ≡ length before + 1
+one_row_more before after row e = ap (λ (rows : List (List ℕ)). length rows) e ∙ length-append before (row ∷ [])
 
 -- a leaf adds no row
 pub after_leaf : (m : RowList) (tree : Tree) (a : ℕ) → tree ≡ Leaf a → m ≡ with_rows m (rows_of_tree m.columns (outline_of tree))

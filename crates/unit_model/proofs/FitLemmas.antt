@@ -31,6 +31,10 @@ row_there lists k row e =
     let at : k + 1 - 1 ≡ k = omega arith in
     sym (get_or_from_slice_get lists k row [] (ap (slice_get lists) (sym at) ∙ e))
 
+-- what holds of the row that a call gives holds of the neighbours, both ways
+pub fits_there : (lefts : List ℕ) (m k : ℕ) (lists : List (List ℕ)) (row : List ℕ) → slice_get lists (k + 1 - 1) ≡ Some row → EndFits lefts m k row ↔ EndFits lefts m k (get_or lists k [])
+fits_there lefts m k lists row e = let same = row_there lists k row e in (subst (EndFits lefts m k) same, subst (EndFits lefts m k) (sym same))
+
 -- it is none of them
 pub lacks_self : (g : GraphValue) (k : ℕ) (row : List ℕ) → IsGraph g → slice_get g.neighbours (k + 1 - 1) ≡ Some row → IsTrue (has row (k + 1)) → ⊥
 lacks_self g k row graph e t =

@@ -33,14 +33,12 @@ lines_more old now new lefts i h e k =
     k ∙ ap (λ y. y ++ left_line (i + 1) x) e ∙ append_assoc old (left_lines 1 (take i lefts)) (left_line (i + 1) x)
     ∙ ap (λ y. old ++ y) (sym (ap (left_lines 1) (take_more lefts i 0 h) ∙ left_lines-append 1 (take i lefts) x ∙ ap (λ j. left_lines 1 (take i lefts) ++ left_line j x) n))
 
--- the head, piece by piece
-pub head_printed : (old a b d e new : List ℕ) (vertices size wide : ℕ) → wide ≡ vertices → a ≡ old ++ codes "pq-unit 1\nvertices " → b ≡ a ++ decimal wide → d ≡ b ++ codes "\nlength " → e ≡ d ++ decimal size → new ≡ e ++ 10 ∷ [] →
+-- the head, line by line
+pub head_printed : (old now new : List ℕ) (vertices size wide : ℕ) → wide ≡ vertices → now ≡ old ++ (codes "pq-unit 1\nvertices " ++ (decimal wide ++ 10 ∷ [])) → new ≡ now ++ (codes "length " ++ (decimal size ++ 10 ∷ [])) →
     new ≡ old ++ unit_head vertices size
-head_printed old a b d e new vertices size wide w h i j k l =
+head_printed old now new vertices size wide w h k =
     let first = codes "pq-unit 1\nvertices " in
-    let next = codes "\nlength " in
-    l ∙ ap (λ t. t ++ 10 ∷ []) (k ∙ ap (λ t. t ++ decimal size) (j ∙ ap (λ t. t ++ next) (i ∙ ap (λ n. a ++ decimal n) w ∙ ap (λ t. t ++ decimal vertices) h)))
-    ∙ append_assoc (((old ++ first) ++ decimal vertices) ++ next) (decimal size) (10 ∷ [])
-    ∙ append_assoc ((old ++ first) ++ decimal vertices) next (decimal size ++ 10 ∷ [])
-    ∙ append_assoc (old ++ first) (decimal vertices) (next ++ (decimal size ++ 10 ∷ []))
-    ∙ append_assoc old first (decimal vertices ++ (next ++ (decimal size ++ 10 ∷ [])))
+    let line = codes "length " ++ (decimal size ++ 10 ∷ []) in
+    k ∙ ap (λ t. t ++ line) (h ∙ ap (λ n. old ++ (first ++ (decimal n ++ 10 ∷ []))) w)
+    ∙ append_assoc old (first ++ (decimal vertices ++ 10 ∷ [])) line
+    ∙ ap (λ t. old ++ t) (append_assoc first (decimal vertices ++ 10 ∷ []) line ∙ ap (λ t. first ++ t) (append_assoc (decimal vertices) (10 ∷ []) line))

@@ -1,5 +1,6 @@
 // The text of a unit model.
-ghost use Rattle.std.specs.Prelude.{◌≡◌, ◌++◌, OnOk, OnErr};
+ghost use Rattle.std.specs.Prelude.{◌≡◌, [], ◌∷◌, ◌++◌, OnOk, OnErr};
+ghost use Rattle.std.specs.Fmt.{decimal};
 ghost use Rattle.plain_text.specs.Pieces.{Extends};
 ghost use Rattle.unit_model.specs.Text.{IsUnit, unit_text, unit_head, left_line, left_lines};
 
@@ -29,10 +30,18 @@ fn push_head(vertices: u32, length: u64, text: &mut Vec<u8>) -> Result<(), NoMem
     ensures ok { OnOk result (text.new.items ≡ text.old.items ++ unit_head vertices length) }
     ensures err { OnErr result (Extends text.old.items text.new.items) }
 {
-    push(text, b"pq-unit 1\nvertices ")?;
-    push_number(text, u64::from(vertices))?;
-    push(text, b"\nlength ")?;
-    push_number(text, length)?;
+    push_line(b"pq-unit 1\nvertices ", u64::from(vertices), text)?;
+    push_line(b"length ", length, text)?;
+    Ok(())
+}
+
+// Appends a word, a number and the end of the line.
+fn push_line(word: &[u8], n: u64, text: &mut Vec<u8>) -> Result<(), NoMemory>
+    ensures ok { OnOk result (text.new.items ≡ text.old.items ++ (word.now ++ (decimal n ++ 10 ∷ []))) }
+    ensures err { OnErr result (Extends text.old.items text.new.items) }
+{
+    push(text, word)?;
+    push_number(text, n)?;
     push(text, b"\n")?;
     Ok(())
 }
@@ -63,8 +72,6 @@ fn push_left(i: u64, left: u64, text: &mut Vec<u8>) -> Result<(), NoMemory>
 {
     push(text, b"unit ")?;
     push_number(text, i)?;
-    push(text, b" ")?;
-    push_number(text, left)?;
-    push(text, b"\n")?;
+    push_line(b" ", left, text)?;
     Ok(())
 }

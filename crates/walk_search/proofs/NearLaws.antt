@@ -58,20 +58,17 @@ along_bound c ones last marked weighed before after some few light h =
     omega (arith, h, few, light, one_more c ones some)
 
 -- three for each one at each column are within the bound of the search
-pub within_bound : (c ones before after : ℕ) → 1 ≤ c → after ≤ before + 3 * (c * ones) + 3 * c + 1 → after ≤ before + 8 * c * (ones + 1)
-within_bound c ones before after some h =
-    let bound : 8 * c * (ones + 1) ≡ 8 * (c * ones) + 8 * c = grind arith in
-    omega (arith, h, bound)
+pub record AreWithin (c ones before after : ℕ) : Type 0 where
+  pub ticks : after ≤ before + 8 * c * (ones + 1)
+  pub few : after ≤ before + 3 * c * (ones + 1) + 1
+  pub square : after ≤ before + c * (2 * ones + c + 3) + 1
 
-pub few_bound : (c ones before after : ℕ) → after ≤ before + 3 * (c * ones) + 3 * c + 1 → after ≤ before + 3 * c * (ones + 1) + 1
-few_bound c ones before after h =
-    let bound : 3 * c * (ones + 1) ≡ 3 * (c * ones) + 3 * c = grind arith in
-    omega (arith, h, bound)
-
-pub square_bound : (c ones before after : ℕ) → after ≤ before + 2 * (c * ones) + c * c + 3 * c + 1 → after ≤ before + c * (2 * ones + c + 3) + 1
-square_bound c ones before after h =
-    let bound : c * (2 * ones + c + 3) ≡ 2 * (c * ones) + c * c + 3 * c = grind arith in
-    omega (arith, h, bound)
+pub are_within : (c ones before after : ℕ) → 1 ≤ c → after ≤ before + 3 * (c * ones) + 3 * c + 1 → after ≤ before + 2 * (c * ones) + c * c + 3 * c + 1 → AreWithin c ones before after
+are_within c ones before after some few square =
+    let wide : 8 * c * (ones + 1) ≡ 8 * (c * ones) + 8 * c = grind arith in
+    let narrow : 3 * c * (ones + 1) ≡ 3 * (c * ones) + 3 * c = grind arith in
+    let all : c * (2 * ones + c + 3) ≡ 2 * (c * ones) + c * c + 3 * c = grind arith in
+    record { ticks = omega (arith, few, wide); few = omega (arith, few, narrow); square = omega (arith, square, all) }
 
 -- along an order, where each one of the first rows was counted before
 pub across_bound : (rows : List (List ℕ)) (c k before held after : ℕ) → 1 ≤ k → held ≤ before + c + sum_by length (take 1 (drop (k - 1) rows)) →

@@ -1,11 +1,11 @@
 // The closed walk of odd length that a conflict in a search tree shows.
-ghost use Rattle.std.specs.Prelude.{◌≡◌, ◌<◌, ◌≤◌, ◌++◌, ℕ, List, length, IfOk, OnOk};
+ghost use Rattle.std.specs.Prelude.{◌≡◌, ◌<◌, ◌≤◌, ◌++◌, ℕ, Some, List, length, slice_get, IfOk, OnOk};
 ghost use Rattle.row_model.specs.declared.graph.Line.{Line};
 ghost use Rattle.row_model.specs.Cycles.{IsOddWalk};
 ghost use Rattle.walk_search.specs.Search.{IsTree, AreConflictEnds, ShowsConflict};
-ghost use Rattle.walk_search.specs.Closing.{IsWayDown, IsWayUp};
+ghost use Rattle.walk_search.specs.Closing.{IsWay};
 
-use crate::forest::{Conflict, Forest};
+use crate::forest::{Conflict, Forest, Node};
 use odd_cycle::Walk;
 use row_model::{Line, NoMemory};
 use std::alloc::Global;
@@ -29,12 +29,12 @@ pub fn closed_walk(alloc: Global, forest: &Forest, conflict: Conflict) -> Result
 fn way_down(alloc: Global, forest: &Forest, to: u32) -> Result<Vec<Line>, NoMemory>
     requires tree { IsTree forest.now.root forest.now.nodes.items }
     requires node { (forest.now.root ≤ to) × (to < length forest.now.nodes.items) }
-    ensures { IfOk result (λ lines. IsWayDown forest.now to lines.items) }
+    ensures { IfOk result (λ lines. IsWay forest.now forest.now.root to lines.items) }
 {
     let mut lines = Vec::new(alloc);
     let mut at = to;
     while at > forest.root {
-        let node = forest.nodes[at as usize];
+        let node = node_above(forest, at);
         let parent = forest.nodes[node.parent as usize];
         lines.push(Line {
             pair: parent.pair,
@@ -50,11 +50,11 @@ fn way_down(alloc: Global, forest: &Forest, to: u32) -> Result<Vec<Line>, NoMemo
 fn add_way_up(forest: &Forest, from: u32, lines: &mut Vec<Line>) -> Result<(), NoMemory>
     requires tree { IsTree forest.now.root forest.now.nodes.items }
     requires node { (forest.now.root ≤ from) × (from < length forest.now.nodes.items) }
-    ensures { OnOk result ((way : List Line) × (lines.new.items ≡ lines.old.items ++ way) × IsWayUp forest.now from way) }
+    ensures { OnOk result ((way : List Line) × (lines.new.items ≡ lines.old.items ++ way) × IsWay forest.now from forest.now.root way) }
 {
     let mut at = from;
     while at > forest.root {
-        let node = forest.nodes[at as usize];
+        let node = node_above(forest, at);
         lines.push(Line {
             pair: node.pair,
             why: node.why,
@@ -62,4 +62,14 @@ fn add_way_up(forest: &Forest, from: u32, lines: &mut Vec<Line>) -> Result<(), N
         at = node.parent;
     }
     Ok(())
+}
+
+// A node of the last tree that is not its root. Its parent stands before it.
+fn node_above(forest: &Forest, at: u32) -> Node
+    requires tree { IsTree forest.now.root forest.now.nodes.items }
+    requires above { (forest.now.root < at) × (at < length forest.now.nodes.items) }
+    ensures there { slice_get forest.now.nodes.items at ≡ Some result }
+    ensures before { (forest.now.root ≤ result.parent) × (result.parent < at) }
+{
+    forest.nodes[at as usize]
 }

@@ -1,8 +1,7 @@
-use Rattle.std.proofs.Common.{◌≡◌, ℕ, ◌+◌, ◌<◌, ◌++◌, List, length, take, sym, subst, append-nil, arith}
+use Rattle.std.proofs.Common.{◌≡◌, ℕ, ◌++◌, List, take, sym, subst, append-nil, arith}
 use Rattle.std.proofs.lemmas.List.{take_all}
-use Rattle.row_model.specs.Graph.{row_at}
 use Rattle.c1p_solve.specs.Growing.{HasTaken}
-use Rattle.c1p_solve.proofs.Growth.{row_taken, next_row, next_refused}
+use Rattle.c1p_solve.proofs.Growth.{next_taken, next_refused}
 use Rattle.c1p_solve.proofs.growing.take_rows.Goals as goal
 
 pub loop-taken-init : goal.loop-taken-init
@@ -21,22 +20,16 @@ reduce_after-requires-clause-tied g c =
 pub loop-taken-preserved : goal.loop-taken-preserved
 loop-taken-preserved g c = λ rows s h.
     let m = c.args.m.now in
-    let k = c.loop-taken.taken in
-    let inside : k < length m.rows = omega arith in
     let so = c.loop-taken.invariant rows s h in
-    let front = rows ++ take k m.rows in
-    subst (λ (ms : List (List ℕ)). HasTaken m.columns ms c.reduce_after.new.self s c.reduce_after.new.steps) (sym (next_row rows m.rows k inside))
-    (row_taken m.columns front (row_at m.rows (k + 1)) c.loop-taken.reducer c.reduce_after.new.self s c.loop-taken.steps c.reduce_after.new.steps c.reduce_after.result c.in-Taken.is so
-    c.reduce_after.ensures.columns (c.reduce_after.ensures.taken c.in-Taken.is front so.tied) c.reduce_after.ensures.amortised)
+    next_taken m.columns rows m.rows c.loop-taken.taken c.loop-taken.reducer c.reduce_after.new.self s c.loop-taken.steps c.reduce_after.new.steps c.reduce_after.result c.in-Taken.is (omega arith) so
+    c.reduce_after.ensures.columns (c.reduce_after.ensures.taken c.in-Taken.is (rows ++ take c.loop-taken.taken m.rows) so.tied) c.reduce_after.ensures.amortised
 
 pub returns-in-Refused : goal.returns-in-Refused
 returns-in-Refused g c = λ rows s h.
     let m = c.args.m.now in
-    let k = c.loop-taken.taken in
-    let inside : k < length m.rows = omega arith in
     let so = c.loop-taken.invariant rows s h in
-    let front = rows ++ take k m.rows in
-    next_refused m.columns rows m.rows k c.loop-taken.reducer c.reduce_after.new.self s c.loop-taken.steps c.reduce_after.new.steps c.reduce_after.result c.in-Refused.is inside so
+    let front = rows ++ take c.loop-taken.taken m.rows in
+    next_refused m.columns rows m.rows c.loop-taken.taken c.loop-taken.reducer c.reduce_after.new.self s c.loop-taken.steps c.reduce_after.new.steps c.reduce_after.result c.in-Refused.is (omega arith) so
     (c.reduce_after.ensures.unchanged c.in-Refused.is) c.reduce_after.ensures.proper (c.reduce_after.ensures.refused c.in-Refused.is front so.tied)
     (c.reduce_after.ensures.conflict c.in-Refused.is front so.tied) c.reduce_after.ensures.amortised
 

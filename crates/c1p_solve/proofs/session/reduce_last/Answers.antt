@@ -1,15 +1,11 @@
 use Rattle.std.proofs.Common.{ℕ, subst}
-use Rattle.std.specs.Prelude.{Result, Ok, Err, OnErr}
 use Rattle.row_model.specs.Graph.{row_at}
 use Rattle.pq_tree.specs.Proper.{IsProper}
+use Rattle.pq_tree.proofs.Texts.{on_err}
 use Rattle.arena_model.specs.Layout.{Layout}
 use Rattle.arena_model.specs.NamedTree.{outline_at}
 use Rattle.c1p_solve.proofs.Nodes.{refused_plainly, refused_with_cycle}
 use Rattle.c1p_solve.proofs.session.reduce_last.Goals as goal
-
-on_err : {T E P : Type 0} (r : Result T E) → P → OnErr r P
-on_err (Ok x) p = tt
-on_err (Err e) p = p
 
 pub returns-in-Refused-2-clause-refused : goal.returns-in-Refused-2-clause-refused
 returns-in-Refused-2-clause-refused g c =

@@ -11,6 +11,6 @@ returns-clause-reply c = λ bytes whole.
       (
         c.in_ok-judgement.judgement,
         c.in_ok-judgement.ensures bytes whole,
-        (c.status.ensures, rw c.into_bytes.ensures.value c.in_ok-text.ensures.ok),
+        (c.line_reply.ensures.status ∙ c.status.ensures, rw c.line_reply.ensures.text c.in_ok-line.ensures.ok),
       ),
     )

@@ -1,4 +1,4 @@
-use Rattle.std.proofs.Common.{ap}
+use Rattle.std.proofs.Common.{ap, ◌∙◌}
 use Rattle.instance_model.specs.Value.{instance_value}
 use Rattle.commands.proofs.check_unit.finding_reply.Goals as goal
 
@@ -9,7 +9,7 @@ returns-clause-reply c = (
   λ bytes whole. (
     c.in_ok-finding.finding,
     c.in_ok-finding.ensures bytes whole,
-    (c.status.ensures, rw c.into_bytes.ensures.value c.in_ok-text.ensures.ok),
+    (c.line_reply.ensures.status ∙ c.status.ensures, rw c.line_reply.ensures.text c.in_ok-line.ensures.ok),
   ),
 )
 

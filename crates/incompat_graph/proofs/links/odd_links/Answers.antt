@@ -1,7 +1,8 @@
-use Rattle.std.proofs.Common.{◌≡◌, ◌∙◌, ◌+◌, length, ap, arith}
+use Rattle.std.proofs.Common.{◌≡◌, ◌∙◌, ◌+◌, ◌≤◌, length, ap, arith}
 use Rattle.std.proofs.lemmas.Grind.{common_steps}
+use Rattle.incompat_graph.proofs.links.odd_links.Given as given
 use Rattle.incompat_graph.proofs.links.odd_links.Goals as goal
-use Rattle.incompat_graph.proofs.links.odd_links.Goals.{then-not-is_known+in_ok-push, else-not-is_known}
+use Rattle.incompat_graph.proofs.links.odd_links.Goals.{After-way_of-way, then-not-is_known+in_ok-push, else-not-is_known}
 
 pub loop-pivot-preserved : goal.loop-pivot-preserved
 loop-pivot-preserved g c = record {
@@ -25,35 +26,25 @@ loop-member-preserved g c = record {
   ];
 }
 
+-- there are no more ways than pairs of a pivot and a member
+few_ways : (g : given.Over) (c : After-way_of-way g) → length c.loop-member.ways.items ≤ 1024
+few_ways g c =
+    omega (
+      arith,
+      c.loop-member.invariant.few,
+      c.loop-pivot.invariant.few,
+      c.loop-member-test.true,
+      c.loop-pivot-test.true,
+      ap length c.deref-member-items.ensures.value,
+      ap length c.deref-pivot-items.ensures.value,
+      c.requires.few,
+    )
+
 pub closed_at_once-requires : goal.closed_at_once-requires
-closed_at_once-requires g c = record {
-  few = omega (
-    arith,
-    ap length c.deref.ensures.value,
-    c.loop-member.invariant.few,
-    c.loop-pivot.invariant.few,
-    c.loop-member-test.true,
-    c.loop-pivot-test.true,
-    ap length c.deref-member-items.ensures.value,
-    ap length c.deref-pivot-items.ensures.value,
-    c.requires.few,
-  );
-}
+closed_at_once-requires g c = record { few = omega (arith, ap length c.deref.ensures.value, few_ways g (goal.at.closed_at_once-requires g c).After-way_of-way) }
 
 pub is_known-requires : goal.is_known-requires
-is_known-requires g c = record {
-  few = omega (
-    arith,
-    ap length c.deref-in-loop-member.ensures.value,
-    c.loop-member.invariant.few,
-    c.loop-pivot.invariant.few,
-    c.loop-member-test.true,
-    c.loop-pivot-test.true,
-    ap length c.deref-member-items.ensures.value,
-    ap length c.deref-pivot-items.ensures.value,
-    c.requires.few,
-  );
-}
+is_known-requires g c = record { few = omega (arith, ap length c.deref-in-loop-member.ensures.value, few_ways g (goal.at.is_known-requires g c).After-way_of-way) }
 
 pub returns-clause-ticks : goal.returns-clause-ticks
 returns-clause-ticks g c = c.loop-pivot.invariant.ticks

@@ -1,7 +1,7 @@
 use Rattle.std.proofs.Common.{◌≡◌, ◌+◌, ◌∷◌, ◌++◌, [], ℕ, Vec, Global, sym, ap, subst, arith}
 use Rattle.std.proofs.lemmas.Grind.{common_steps}
 use Rattle.row_model.specs.Rows.{IsRow}
-use Rattle.incompat_graph.proofs.PartLaws.{row_wider, row_longer}
+use Rattle.row_model.proofs.Ascending.{ascends_longer, ascends_wider}
 use Rattle.incompat_graph.proofs.part.row_of.Goals as goal
 use Rattle.incompat_graph.proofs.part.row_of.Goals.{then-has_counted+in_ok-push, else-has_counted}
 
@@ -11,9 +11,9 @@ loop-i-preserved g c =
     elim c.if-has_counted.branch [
       | then-has_counted+in_ok-push w ↦
           let e : c.if-has_counted.row.items ≡ c.loop-i.row.items ++ (c.loop-i.i + 1) ∷ [] = grind (arith, common_steps) in
-          subst (IsRow (c.loop-i.i + 1)) (sym e) (row_longer c.loop-i.i c.loop-i.row.items c.loop-i.invariant.row)
+          subst (IsRow (c.loop-i.i + 1)) (sym e) (ascends_longer c.loop-i.i 0 (c.loop-i.i + 1) c.loop-i.row.items (omega arith) (omega arith) c.loop-i.invariant.row)
       | else-has_counted w ↦
           let e : c.if-has_counted.row.items ≡ c.loop-i.row.items = ap (λ (v : Vec ℕ Global). v.items) w.row-is in
-          subst (IsRow (c.loop-i.i + 1)) (sym e) (row_wider c.loop-i.i c.loop-i.row.items c.loop-i.invariant.row)
+          subst (IsRow (c.loop-i.i + 1)) (sym e) (ascends_wider c.loop-i.i (c.loop-i.i + 1) 0 c.loop-i.row.items (omega arith) c.loop-i.invariant.row)
     ] in
     record { row = row; ticks = omega (arith, c.loop-i.invariant.ticks, c.has_counted.ensures.ticks) }

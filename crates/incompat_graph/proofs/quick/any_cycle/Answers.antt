@@ -1,4 +1,4 @@
-use Rattle.std.proofs.Common.{◌∙◌, ◌-◌, ◌≤◌, List, ℕ, IfOk, length, take, ap, sym, subst, arith}
+use Rattle.std.proofs.Common.{◌∙◌, ◌+◌, ◌*◌, ◌-◌, ◌≤◌, List, ℕ, IfOk, sum_by, length, take, ap, sym, subst, arith}
 use Rattle.column_order.specs.Orders.{IsValidOrder}
 use Rattle.column_order.proofs.Counts.{order_length}
 use Rattle.row_model.specs.declared.graph.Line.{Line}
@@ -8,7 +8,7 @@ use Rattle.open_gaps.specs.Gaps.{AreGaps}
 use Rattle.incompat_graph.proofs.StepBounds.{along_bound, tried_bound}
 use Rattle.incompat_graph.proofs.quick.any_cycle.Given as given
 use Rattle.incompat_graph.proofs.quick.any_cycle.Goals as goal
-use Rattle.incompat_graph.proofs.quick.any_cycle.Goals.{After-lines}
+use Rattle.incompat_graph.proofs.quick.any_cycle.Goals.{After-new, After-walk_across, After-lines}
 
 pub quick_cycle-requires-clause-columns : goal.quick_cycle-requires-clause-columns
 quick_cycle-requires-clause-columns g c =
@@ -32,35 +32,35 @@ found g c =
 pub short_cycle-requires-clause-walk : goal.short_cycle-requires-clause-walk
 short_cycle-requires-clause-walk g c = (take c.args.k c.args.m.now.rows, found g (goal.at.short_cycle-requires-clause-walk g c).After-lines)
 
-pub returns-in_err-gaps-clause-ticks : goal.returns-in_err-gaps-clause-ticks
-returns-in_err-gaps-clause-ticks g c =
+-- no search among all pairs has begun
+tried : (g : given.Over) (c : After-new g) (after : ℕ) → after ≤ c.new.new.steps + (2 * c.args.most - c.args.m.now.columns) →
+    after + 1 ≤ c.args.steps.now + 4 * c.args.m.now.columns * (sum_by length (take c.args.k c.args.m.now.rows) + 1)
+tried g c after few =
     let p = c.requires.refused.is_pair in
-    let some : 1 ≤ c.args.m.now.columns = omega (arith, p.a_from, p.a_to) in
-    tried_bound c.args.m.now.rows c.args.m.now.columns c.args.k c.args.most c.args.steps.now c.new.new.steps c.new.new.steps some c.requires.row.0 c.requires.most c.new.ensures.ticks (omega arith)
+    tried_bound c.args.m.now.rows c.args.m.now.columns c.args.k c.args.most c.args.steps.now c.new.new.steps after (omega (arith, p.a_from, p.a_to)) c.requires.row.0 c.requires.most c.new.ensures.ticks few
+
+pub returns-in_err-gaps-clause-ticks : goal.returns-in_err-gaps-clause-ticks
+returns-in_err-gaps-clause-ticks g c = tried g (goal.at.returns-in_err-gaps-clause-ticks g c).After-new c.new.new.steps (omega arith)
 
 pub returns-in_err-cycle-clause-ticks : goal.returns-in_err-cycle-clause-ticks
-returns-in_err-cycle-clause-ticks g c =
-    let p = c.requires.refused.is_pair in
-    let some : 1 ≤ c.args.m.now.columns = omega (arith, p.a_from, p.a_to) in
-    tried_bound c.args.m.now.rows c.args.m.now.columns c.args.k c.args.most c.args.steps.now c.new.new.steps c.quick_cycle.new.steps some c.requires.row.0 c.requires.most c.new.ensures.ticks (omega arith)
+returns-in_err-cycle-clause-ticks g c = tried g (goal.at.returns-in_err-cycle-clause-ticks g c).After-new c.quick_cycle.new.steps c.quick_cycle.ensures.ticks
 
 pub returns-in-Some-clause-ticks : goal.returns-in-Some-clause-ticks
-returns-in-Some-clause-ticks g c =
+returns-in-Some-clause-ticks g c = tried g (goal.at.returns-in-Some-clause-ticks g c).After-new c.quick_cycle.new.steps c.quick_cycle.ensures.ticks
+
+-- and after one that found none
+searched : (g : given.Over) (c : After-walk_across g) → c.walk_across.new.steps + 1 ≤ c.args.steps.now + 4 * c.args.m.now.columns * (sum_by length (take c.args.k c.args.m.now.rows) + 1)
+searched g c =
     let p = c.requires.refused.is_pair in
-    let some : 1 ≤ c.args.m.now.columns = omega (arith, p.a_from, p.a_to) in
-    tried_bound c.args.m.now.rows c.args.m.now.columns c.args.k c.args.most c.args.steps.now c.new.new.steps c.quick_cycle.new.steps some c.requires.row.0 c.requires.most c.new.ensures.ticks (omega arith)
+    let two : 2 ≤ c.args.m.now.columns = omega (arith, p.a_from, p.a_to, p.b_from, p.b_to, p.distinct) in
+    along_bound c.args.m.now.rows c.args.m.now.columns c.args.k c.args.most c.args.steps.now c.new.new.steps c.quick_cycle.new.steps c.walk_across.new.steps two c.requires.most c.new.ensures.ticks c.quick_cycle.ensures.ticks
+    c.walk_across.ensures.ticks
 
 pub returns-in_err-walk-clause-ticks : goal.returns-in_err-walk-clause-ticks
-returns-in_err-walk-clause-ticks g c =
-    let p = c.requires.refused.is_pair in
-    let two : 2 ≤ c.args.m.now.columns = omega (arith, p.a_from, p.a_to, p.b_from, p.b_to, p.distinct) in
-    along_bound c.args.m.now.rows c.args.m.now.columns c.args.k c.args.most c.args.steps.now c.new.new.steps c.quick_cycle.new.steps c.walk_across.new.steps two c.requires.most c.new.ensures.ticks (omega arith) c.walk_across.ensures.ticks
+returns-in_err-walk-clause-ticks g c = searched g (goal.at.returns-in_err-walk-clause-ticks g c).After-walk_across
 
 pub returns-clause-ticks : goal.returns-clause-ticks
-returns-clause-ticks g c =
-    let p = c.requires.refused.is_pair in
-    let two : 2 ≤ c.args.m.now.columns = omega (arith, p.a_from, p.a_to, p.b_from, p.b_to, p.distinct) in
-    along_bound c.args.m.now.rows c.args.m.now.columns c.args.k c.args.most c.args.steps.now c.new.new.steps c.quick_cycle.new.steps c.walk_across.new.steps two c.requires.most c.new.ensures.ticks (omega arith) c.walk_across.ensures.ticks
+returns-clause-ticks g c = searched g (goal.at.returns-clause-ticks g c).After-walk_across
 
 pub returns-clause-cycle : goal.returns-clause-cycle
 returns-clause-cycle g c =

@@ -1,12 +1,9 @@
-use Rattle.order_list.proofs.Turned.{low_Q, first_Q, over_Q}
+use Rattle.std.proofs.Common.{◌∙◌}
+use Rattle.order_list.proofs.Turned.{stands_Q, over_Q}
 use Rattle.order_list.proofs.turn.low_q.Goals as goal
 
-pub invariant_of-result : goal.invariant_of-result
-invariant_of-result c =
-    record {
-      low = low_Q c.q-tree.result c.in_ok-bare_trees.field-0 c.args.children.items c.in_ok-bare_trees.ensures c.q-tree.ensures c.requires;
-      is_first = first_Q c.q-tree.result c.in_ok-bare_trees.field-0 c.args.children.items c.in_ok-bare_trees.ensures c.first_of_all-first.result c.q-tree.ensures (rw c.deref.ensures.value at c.first_of_all-first.ensures);
-    }
+pub with_first-requires : goal.with_first-requires
+with_first-requires c = stands_Q c.q.result c.in_ok-trees.trees c.args.children.items c.in_ok-trees.ensures.trees c.in_ok-trees.first c.q.ensures c.requires c.in_ok-trees.ensures.first
 
 pub returns : goal.returns
-returns c = over_Q c.q-tree.result c.in_ok-bare_trees.field-0 c.args.children.items c.in_ok-bare_trees.ensures c.q-tree.ensures
+returns c = c.with_first.ensures ∙ over_Q c.q.result c.in_ok-trees.trees c.args.children.items c.in_ok-trees.ensures.trees c.q.ensures

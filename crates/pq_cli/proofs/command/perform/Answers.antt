@@ -81,7 +81,9 @@ unfolding Replies
 returns-in-Check g c =
     let command = Check c.in-Check.kind c.in-Check.file.now c.in-Check.verdict.now in
     rw c.in-Check.is (record {
-      runs = c.over_both.ensures command (record { files = refl; may = omega arith; first = λ bytes. refl }) (λ i w made held told.
+      runs = c.over_both.ensures command (record { files = refl; may = omega arith; first = λ bytes. refl }) (λ both made held told.
+          let i = both.instance in
+          let w = both.text in
           says_of_both command c.in-Check.kind i (λ reply. (bytes : List ℕ) → IsWhole MAX_VERDICT_BYTES bytes w → IsJudgementReply (instance_value i) bytes reply.status reply.text.items) MAX_VERDICT_BYTES w made (search rules)
           (search rules) (λ reply bytes text is read whole. (instance_value i, sym read, is text whole)));
       steps = record { none = λ e. refl; refused = λ files f d. refl; steps = λ files f. refl };
@@ -93,7 +95,9 @@ returns-in-CheckCore g c =
     let kind = c.in-CheckCore.kind in
     let command = CheckCore kind c.in-CheckCore.file.now c.in-CheckCore.core.now in
     rw c.in-CheckCore.is (record {
-      runs = c.over_both-in-CheckCore.ensures command (record { files = refl; may = omega arith; first = λ bytes. refl }) (λ i w made held told.
+      runs = c.over_both-in-CheckCore.ensures command (record { files = refl; may = omega arith; first = λ bytes. refl }) (λ both made held told.
+          let i = both.instance in
+          let w = both.text in
           says_of_both command kind i
           (λ reply. (bytes : List ℕ) → IsWhole MAX_CORE_BYTES bytes w → (m : RowList) × (instance_value i ≡ plain kind m) × IsCoreJudgementReply kind m bytes reply.status reply.text.items) MAX_CORE_BYTES w made
           (search rules) (search rules) (λ reply bytes text is read whole.
@@ -107,7 +111,9 @@ unfolding Replies
 returns-in-CheckUnit g c =
     let command = CheckUnit c.in-CheckUnit.file.now c.in-CheckUnit.unit.now in
     rw c.in-CheckUnit.is (record {
-      runs = c.over_both-in-CheckUnit.ensures command (record { files = refl; may = omega arith; first = λ bytes. refl }) (λ i w made held told.
+      runs = c.over_both-in-CheckUnit.ensures command (record { files = refl; may = omega arith; first = λ bytes. refl }) (λ both made held told.
+          let i = both.instance in
+          let w = both.text in
           says_of_both command Proper i
           (λ reply. (g : _) × (instance_value i ≡ proper g) × ((bytes : List ℕ) → IsWhole MAX_VERDICT_BYTES bytes w → IsFindingReply g bytes reply.status reply.text.items)) MAX_VERDICT_BYTES w made
           (search rules) (search rules) (λ reply bytes text is read whole. (is.0, read_as Proper bytes i (proper is.0) read is.1, is.2 text whole)));

@@ -12,21 +12,21 @@ returns-in_err-instance g c = λ command over says.
     (HoldsInstance c.args.kind) over.files c.in_err-instance.field-0.0 c.in_err-instance.ensures (λ refusal held. (over.may, λ bytes made. over.first bytes ∙ ap (refused_at 1) (sym made)))
     c.from_residual.result c.from_residual.ensures.1
 
-pub returns-in_err-whole : goal.returns-in_err-whole
-returns-in_err-whole g c = λ command over says.
+pub returns-in_err-text : goal.returns-in_err-text
+returns-in_err-text g c = λ command over says.
     second_stops g.F.Shelf.content g.F.Shelf.taken g.F.Shelf.faults c.args.files.now c.read_instance.new.files c.read_text.new.files command c.args.file.now c.args.text.now (ReadsInstance c.args.kind)
     (HoldsInstance c.args.kind) c.in_ok-instance.instance (ReadsBytes c.args.limit) IsRead over.files c.in_ok-instance.ensures (λ bytes made. over.first bytes ∙ ap (refused_at 1) (sym made))
-    c.in_err-whole.field-0.0 c.in_err-whole.ensures (λ refusal held. absurd held) c.from_residual-in_err-whole.result c.from_residual-in_err-whole.ensures.1
+    c.in_err-text.field-0.0 c.in_err-text.ensures (λ refusal held. absurd held) c.from_residual-in_err-text.result c.from_residual-in_err-text.ensures.1
 
 pub returns-in_err-reply : goal.returns-in_err-reply
 returns-in_err-reply g c = λ command over says.
     memory_after_two g.F.Shelf.content g.F.Shelf.taken g.F.Shelf.faults c.args.files.now c.read_instance.new.files c.read_text.new.files command c.args.file.now c.args.text.now (ReadsInstance c.args.kind)
     (HoldsInstance c.args.kind) c.in_ok-instance.instance (ReadsBytes c.args.limit) IsRead over.files c.in_ok-instance.ensures (λ bytes made. over.first bytes ∙ ap (refused_at 1) (sym made))
-    c.in_ok-whole.whole c.in_ok-whole.ensures c.from_residual-in_err-reply.result c.from_residual-in_err-reply.ensures.1
+    c.in_ok-text.text c.in_ok-text.ensures c.from_residual-in_err-reply.result c.from_residual-in_err-reply.ensures.1
 
 pub returns : goal.returns
 returns g c = λ command over says.
-    let reply = says c.in_ok-instance.instance c.in_ok-whole.whole (Ok c.in_ok-reply.field-0) c.in_ok-instance.ensures.1.holds_of_value c.in_ok-reply.ensures in
+    let reply = says (record { instance = c.in_ok-instance.instance; text = c.in_ok-text.text }) (Ok c.in_ok-reply.field-0) c.in_ok-instance.ensures.1.holds_of_value c.in_ok-reply.ensures in
     reply_after_two g.F.Shelf.content g.F.Shelf.taken g.F.Shelf.faults c.args.files.now c.read_instance.new.files c.read_text.new.files command c.args.file.now c.args.text.now (ReadsInstance c.args.kind)
     (HoldsInstance c.args.kind) c.in_ok-instance.instance (ReadsBytes c.args.limit) IsRead over.files c.in_ok-instance.ensures (λ bytes made. over.first bytes ∙ ap (refused_at 1) (sym made))
-    c.in_ok-whole.whole c.in_ok-whole.ensures c.in_ok-reply.field-0 reply.status (λ bytes text made whole. reply.says (bytes ∷ text ∷ []) (bytes, text, refl, made, whole))
+    c.in_ok-text.text c.in_ok-text.ensures c.in_ok-reply.field-0 reply.status (λ bytes text made whole. reply.says (bytes ∷ text ∷ []) (bytes, text, refl, made, whole))

@@ -1,9 +1,12 @@
-use Rattle.std.proofs.Common.{◌+◌, length, arith}
+use Rattle.std.proofs.Common.{◌+◌, IsTrue, length, arith}
+use Rattle.row_judge.specs.Costs.{AreJudgements}
 use Rattle.row_core.proofs.Judgements.{none_judged, more_judged, judged_within}
 use Rattle.row_core.proofs.Numbers.{increasing}
 use Rattle.row_core.proofs.Told.{tells_core}
 use Rattle.row_core.proofs.Rounds.{one_round, last_round, round_fails, round_ends}
+use Rattle.row_core.proofs.find.core_among.Given as given
 use Rattle.row_core.proofs.find.core_among.Goals as goal
+use Rattle.row_core.proofs.find.core_among.Goals.{After-each_left_out}
 
 pub of-requires-clause-ascending : goal.of-requires-clause-ascending
 of-requires-clause-ascending g c = increasing (length c.args.m.now.rows) 0 c.in_ok-set.set.rows.items c.in_ok-set.ensures.narrowed.rows
@@ -63,8 +66,10 @@ returns-in_err-set-clause-any g c = λ turn.
     judged_within g.J.Judge.costs c.args.m.now before.0 (c.rounds.blamed.untried + 1) (length c.args.blamed.rows.items + c.args.blamed.untried + 1) c.args.steps.now c.rounds.steps c.all_tried.new.steps
     (round_fails before.0 _ _ _ _ before.1 c.rounds.invariant.blamed.few c.rounds.invariant.few c.requires.blamed.few) before.2 c.all_tried.ensures.any
 
-pub returns-in_err-orders-clause-any : goal.returns-in_err-orders-clause-any
-returns-in_err-orders-clause-any g c = λ turn.
+-- nor after the orders of the others are there
+within : (g : given.Over) (c : After-each_left_out g) → IsTrue g.J.Judge.in_turn →
+    AreJudgements g.J.Judge.costs c.args.m.now (length c.args.blamed.rows.items + c.args.blamed.untried + 1) c.args.steps.now c.each_left_out.new.steps
+within g c turn =
     let m = c.args.m.now in
     let before = c.rounds.invariant.judgements turn in
     let set = c.in_ok-set.ensures.judgements in
@@ -73,12 +78,8 @@ returns-in_err-orders-clause-any g c = λ turn.
     (round_ends before.0 set.0 many _ _ _ _ before.1 set.1 c.in_ok-set.ensures.few c.rounds.invariant.blamed.few c.rounds.invariant.few c.requires.blamed.few)
     (more_judged g.J.Judge.costs m before.0 set.0 c.args.steps.now c.rounds.steps c.all_tried.new.steps before.2 set.2) c.each_left_out.ensures.judgements
 
+pub returns-in_err-orders-clause-any : goal.returns-in_err-orders-clause-any
+returns-in_err-orders-clause-any g c = within g (goal.at.returns-in_err-orders-clause-any g c).After-each_left_out
+
 pub returns-in-Orders-clause-any : goal.returns-in-Orders-clause-any
-returns-in-Orders-clause-any g c = λ turn.
-    let m = c.args.m.now in
-    let before = c.rounds.invariant.judgements turn in
-    let set = c.in_ok-set.ensures.judgements in
-    let many = length c.in_ok-set.set.rows.items in
-    judged_within g.J.Judge.costs m (before.0 + set.0) many (length c.args.blamed.rows.items + c.args.blamed.untried + 1) c.args.steps.now c.all_tried.new.steps c.each_left_out.new.steps
-    (round_ends before.0 set.0 many _ _ _ _ before.1 set.1 c.in_ok-set.ensures.few c.rounds.invariant.blamed.few c.rounds.invariant.few c.requires.blamed.few)
-    (more_judged g.J.Judge.costs m before.0 set.0 c.args.steps.now c.rounds.steps c.all_tried.new.steps before.2 set.2) c.each_left_out.ensures.judgements
+returns-in-Orders-clause-any g c = within g (goal.at.returns-in-Orders-clause-any g c).After-each_left_out

@@ -6,7 +6,9 @@ use Rattle.c1p_solve.specs.Growing.{HasTaken, HasRefused}
 use Rattle.solve_replies.specs.Steps.{answer_status}
 use Rattle.solve_replies.proofs.Centres.{next_centre, few_to, steps_to, ready_for, centre_taken, centre_refused, all_orders_some, unmade_within}
 use Rattle.solve_replies.proofs.Grown.{taken_within}
+use Rattle.solve_replies.proofs.distances.solve_balls.Given as given
 use Rattle.solve_replies.proofs.distances.solve_balls.Goals as goal
+use Rattle.solve_replies.proofs.distances.solve_balls.Goals.{In-Some}
 
 pub loop-before-init : goal.loop-before-init
 loop-before-init g c =
@@ -50,41 +52,27 @@ overflow_add-taken g c =
       few_to d (x + 1) c.derived_sizes_law.ensures.rows c.items-items.ensures.distances c.requires (omega (arith, inside)),
     )
 
+-- the balls that were taken before, and those of this centre up to the one that is refused
+refused : (g : given.Over) (c : In-Some g) → HasRefused (balls_of c.args.d.now) (c.loop-before.taken + c.in-Some.k) c.take_rows.new.reducer c.args.steps.now c.take_rows.new.steps
+refused g c =
+    let d = c.args.d.now in
+    let x = c.loop-before.before in
+    let s = c.args.steps.now in
+    let f = c.take_rows.new.reducer in
+    let inside : x < d.items = omega (arith, c.loop-before-test.true, c.items-items.ensures.items) in
+    subst (λ n. HasRefused (balls_of d) (n + c.in-Some.k) f s c.take_rows.new.steps) (sym c.loop-before.invariant.count)
+    (centre_refused d x c.balls_round.new.matrix c.loop-before.reducer f s c.loop-before.steps c.take_rows.new.steps c.take_rows.result c.in_ok-balls_round.ensures c.loop-before.invariant.held c.take_rows.ensures c.in-Some.k inside c.in-Some.is)
+
 pub overflow_add-taken-in-Some : goal.overflow_add-taken-in-Some
 overflow_add-taken-in-Some g c =
     let d = c.args.d.now in
-    let x = c.loop-before.before in
-    let s = c.args.steps.now in
-    let f = c.take_rows.new.reducer in
-    let inside : x < d.items = omega (arith, c.loop-before-test.true, c.items-items.ensures.items) in
-    let k = c.in-Some.k in
-    let refused : HasRefused (balls_of d) (length (balls_to d x) + k) f s c.take_rows.new.steps =
-    centre_refused d x c.balls_round.new.matrix c.loop-before.reducer f s c.loop-before.steps c.take_rows.new.steps c.take_rows.result c.in_ok-balls_round.ensures c.loop-before.invariant.held c.take_rows.ensures k inside c.in-Some.is in
-    omega (arith, c.loop-before.invariant.count, refused.to, few_to d d.items c.derived_sizes_law.ensures.rows c.items-items.ensures.distances c.requires (omega arith))
+    omega (arith, (refused g (goal.at.overflow_add-taken-in-Some g c).In-Some).to, few_to d d.items c.derived_sizes_law.ensures.rows c.items-items.ensures.distances c.requires (omega arith))
 
 pub not_robinson-requires : goal.not_robinson-requires
-not_robinson-requires g c =
-    let d = c.args.d.now in
-    let x = c.loop-before.before in
-    let s = c.args.steps.now in
-    let f = c.take_rows.new.reducer in
-    let inside : x < d.items = omega (arith, c.loop-before-test.true, c.items-items.ensures.items) in
-    let refused : HasRefused (balls_of d) (length (balls_to d x) + c.in-Some.k) f s c.take_rows.new.steps =
-    centre_refused d x c.balls_round.new.matrix c.loop-before.reducer f s c.loop-before.steps c.take_rows.new.steps c.take_rows.result c.in_ok-balls_round.ensures c.loop-before.invariant.held c.take_rows.ensures c.in-Some.k inside c.in-Some.is in
-    let here : HasRefused (balls_of d) (c.loop-before.taken + c.in-Some.k) f s c.take_rows.new.steps = subst (λ n. HasRefused (balls_of d) (n + c.in-Some.k) f s c.take_rows.new.steps) (sym c.loop-before.invariant.count) refused in
-    (s, here)
+not_robinson-requires g c = (c.args.steps.now, refused g (goal.at.not_robinson-requires g c).In-Some)
 
 pub returns-in-Some-clause-steps : goal.returns-in-Some-clause-steps
-returns-in-Some-clause-steps g c =
-    let d = c.args.d.now in
-    let x = c.loop-before.before in
-    let s = c.args.steps.now in
-    let f = c.take_rows.new.reducer in
-    let inside : x < d.items = omega (arith, c.loop-before-test.true, c.items-items.ensures.items) in
-    let refused : HasRefused (balls_of d) (length (balls_to d x) + c.in-Some.k) f s c.take_rows.new.steps =
-    centre_refused d x c.balls_round.new.matrix c.loop-before.reducer f s c.loop-before.steps c.take_rows.new.steps c.take_rows.result c.in_ok-balls_round.ensures c.loop-before.invariant.held c.take_rows.ensures c.in-Some.k inside c.in-Some.is in
-    let here : HasRefused (balls_of d) (c.loop-before.taken + c.in-Some.k) f s c.take_rows.new.steps = subst (λ n. HasRefused (balls_of d) (n + c.in-Some.k) f s c.take_rows.new.steps) (sym c.loop-before.invariant.count) refused in
-    c.not_robinson.ensures.steps s here
+returns-in-Some-clause-steps g c = c.not_robinson.ensures.steps c.args.steps.now (refused g (goal.at.returns-in-Some-clause-steps g c).In-Some)
 
 pub returns-in_err-balls_round-clause-steps : goal.returns-in_err-balls_round-clause-steps
 returns-in_err-balls_round-clause-steps g c =

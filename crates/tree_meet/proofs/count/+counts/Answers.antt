@@ -1,6 +1,6 @@
 use Rattle.std.proofs.Common.{rules, ℕ, List, length, refl, sym, ap, arith}
 use Rattle.pq_tree.specs.declared.Tree.TheViews.{the_lemmas}
-use Rattle.tree_meet.proofs.Fronts.{count_P, count_Q, groups_leaf, groups_more, groups_more_exact, arities_P, arities_Q, child_arities}
+use Rattle.tree_meet.proofs.Fronts.{count_P, count_Q, groups_leaf, groups_more, groups_more_exact, arities_P, arities_Q, counted_Q, child_arities}
 use Rattle.tree_meet.proofs.count.+counts.Goals as goal
 
 pub count_tree-count_trees-requires : goal.count_tree-count_trees-requires
@@ -18,14 +18,7 @@ count_tree-overflow_add-result t c =
 
 pub count_tree-overflow_cast-result : goal.count_tree-overflow_cast-result
 count_tree-overflow_cast-result t c =
-    let ts = c.in-Q.children.items in
-    omega (
-      arith,
-      c.requires.few,
-      c.len.ensures,
-      (arities_Q c.args.tree.now c.in-Q.children ts c.in-Q.is refl c.requires.arities).0,
-      count_Q c.args.tree.now c.in-Q.children ts c.in-Q.is refl,
-    )
+    omega (arith, c.requires.few, c.len.ensures, counted_Q c.args.tree.now c.in-Q.children c.in-Q.children.items c.in-Q.is refl c.requires.arities)
 
 pub count_tree-count_trees-requires-in-Q : goal.count_tree-count_trees-requires-in-Q
 count_tree-count_trees-requires-in-Q t c =
@@ -39,16 +32,8 @@ count_tree-count_trees-requires-in-Q t c =
 
 pub count_tree-overflow_add-result-in-Q : goal.count_tree-overflow_add-result-in-Q
 count_tree-overflow_add-result-in-Q t c =
-    let ts = c.deref-in-Q.result.now in
-    omega (
-      arith,
-      c.requires.few,
-      c.len.ensures,
-      c.deref-in-Q.ensures.len,
-      c.count_trees-in-Q.ensures,
-      (arities_Q c.args.tree.now c.in-Q.children ts c.in-Q.is c.deref-in-Q.ensures.value c.requires.arities).0,
-      count_Q c.args.tree.now c.in-Q.children ts c.in-Q.is c.deref-in-Q.ensures.value,
-    )
+    let counted = counted_Q c.args.tree.now c.in-Q.children c.deref-in-Q.result.now c.in-Q.is c.deref-in-Q.ensures.value c.requires.arities in
+    omega (arith, c.requires.few, c.len.ensures, c.deref-in-Q.ensures.len, c.count_trees-in-Q.ensures, counted)
 
 pub count_tree-returns-in-Leaf : goal.count_tree-returns-in-Leaf
 count_tree-returns-in-Leaf t c = sym (ap (λ (l : List (List ℕ)). length l) (groups_leaf c.args.tree.now c.in-Leaf.field-0 c.in-Leaf.is))
@@ -59,15 +44,8 @@ count_tree-returns-in-P t c =
 
 pub count_tree-returns-in-Q : goal.count_tree-returns-in-Q
 count_tree-returns-in-Q t c =
-    let ts = c.deref-in-Q.result.now in
-    omega (
-      arith,
-      c.len.ensures,
-      c.deref-in-Q.ensures.len,
-      c.count_trees-in-Q.ensures,
-      (arities_Q c.args.tree.now c.in-Q.children ts c.in-Q.is c.deref-in-Q.ensures.value c.requires.arities).0,
-      count_Q c.args.tree.now c.in-Q.children ts c.in-Q.is c.deref-in-Q.ensures.value,
-    )
+    let counted = counted_Q c.args.tree.now c.in-Q.children c.deref-in-Q.result.now c.in-Q.is c.deref-in-Q.ensures.value c.requires.arities in
+    omega (arith, c.len.ensures, c.deref-in-Q.ensures.len, c.count_trees-in-Q.ensures, counted)
 
 pub count_trees-count_tree-count-requires : goal.count_trees-count_tree-count-requires
 count_trees-count_tree-count-requires t c = (

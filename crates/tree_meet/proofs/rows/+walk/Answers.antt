@@ -14,7 +14,7 @@ use Rattle.pq_tree.specs.declared.Tree.TheViews.{the_lemmas}
 use Rattle.tree_meet.specs.TreeRows.{neighbours, groups_of, row_of_group}
 use Rattle.tree_meet.proofs.Walked.{row_marks, group_rows}
 use Rattle.tree_meet.proofs.Fronts.{node_leaves, count_P, count_Q, groups_more, child_has, child_occurs, outlines_more}
-use Rattle.tree_meet.proofs.Steps.{node_parts, node_pairs, with_rows, after_leaf, after_P, after_Q, after_child, child_row}
+use Rattle.tree_meet.proofs.Steps.{node_parts, node_pairs, one_row_more, with_rows, after_leaf, after_P, after_Q, after_child, child_row}
 use Rattle.tree_meet.proofs.rows.+walk.Goals as goal
 
 pub push_tree-push_row-requires-clause-row : goal.push_tree-push_row-requires-clause-row
@@ -102,8 +102,7 @@ push_tree-push_trees-requires t c =
               omega (
                 arith,
                 c.requires.room,
-                ap (λ (l : List (List ℕ)). length l) rows,
-                length-append m.rows (c.args.row.now ∷ []),
+                one_row_more m.rows n.rows c.args.row.now rows,
                 count_P c.args.tree.now c.in-P.children ts c.in-P.is c.deref-in-P.ensures.value,
               ),
             ),
@@ -133,8 +132,7 @@ push_tree-push_lists-requires-clause-room t c =
     omega (
       arith,
       c.requires.room,
-      ap (λ (l : List (List ℕ)). length l) rows,
-      length-append m.rows (c.args.row.now ∷ []),
+      one_row_more m.rows n.rows c.args.row.now rows,
       count_Q c.args.tree.now c.in-Q.children ts c.in-Q.is c.deref-in-Q.ensures.value,
       c.in_ok-pairs_of-in-Q.ensures.0,
       ap (λ (l : List (Vec ℕ Global)). length l) c.deref-in-Q-2.ensures.value,
@@ -169,8 +167,7 @@ push_tree-push_trees-requires-in-Q t c =
               omega (
                 arith,
                 c.requires.room,
-                ap (λ (l : List (List ℕ)). length l) rows,
-                length-append m.rows (c.args.row.now ∷ []),
+                one_row_more m.rows n.rows c.args.row.now rows,
                 ap (λ (l : List (List ℕ)). length l) more,
                 length-append n.rows (lists_of c.deref-in-Q-2.result.now),
                 length-map c.deref-in-Q-2.result.now (λ (list : Vec ℕ Global). list.items),

@@ -1,18 +1,8 @@
-use Rattle.unit_model.proofs.WriteLaws.{on_err, unchanged, extends_after, head_printed}
+use Rattle.unit_model.proofs.WriteLaws.{on_err, extends_after, head_printed}
 use Rattle.unit_model.proofs.write.push_head.Goals as goal
 
 pub returns-clause-ok : goal.returns-clause-ok
-returns-clause-ok c =
-    head_printed _ _ _ _ _ _ c.args.vertices c.args.length _ c.from.ensures c.in_ok-push.ensures.ok c.in_ok-push_number.ensures.ok c.in_ok-push-2.ensures.ok c.in_ok-push_number-2.ensures.ok c.in_ok-push-3.ensures.ok
+returns-clause-ok c = head_printed _ _ _ c.args.vertices c.args.length _ c.from.ensures c.in_ok-push_line.ensures.ok c.in_ok-push_line-2.ensures.ok
 
-pub returns-in_err-push_number-clause-err : goal.returns-in_err-push_number-clause-err
-returns-in_err-push_number-clause-err c = on_err _ (extends_after _ _ _ _ c.in_ok-push.ensures.ok (unchanged c.in_err-push_number.ensures.err))
-
-pub returns-in_err-push-2-clause-err : goal.returns-in_err-push-2-clause-err
-returns-in_err-push-2-clause-err c = on_err _ (extends_after _ _ _ _ c.in_ok-push.ensures.ok (extends_after _ _ _ _ c.in_ok-push_number.ensures.ok (unchanged c.in_err-push-2.ensures.err)))
-
-pub returns-in_err-push_number-2-clause-err : goal.returns-in_err-push_number-2-clause-err
-returns-in_err-push_number-2-clause-err c = on_err _ (extends_after _ _ _ _ c.in_ok-push.ensures.ok (extends_after _ _ _ _ c.in_ok-push_number.ensures.ok (extends_after _ _ _ _ c.in_ok-push-2.ensures.ok (unchanged c.in_err-push_number-2.ensures.err))))
-
-pub returns-in_err-push-3-clause-err : goal.returns-in_err-push-3-clause-err
-returns-in_err-push-3-clause-err c = on_err _ (extends_after _ _ _ _ c.in_ok-push.ensures.ok (extends_after _ _ _ _ c.in_ok-push_number.ensures.ok (extends_after _ _ _ _ c.in_ok-push-2.ensures.ok (extends_after _ _ _ _ c.in_ok-push_number-2.ensures.ok (unchanged c.in_err-push-3.ensures.err)))))
+pub returns-in_err-push_line-2-clause-err : goal.returns-in_err-push_line-2-clause-err
+returns-in_err-push_line-2-clause-err c = on_err _ (extends_after _ _ _ _ c.in_ok-push_line.ensures.ok c.in_err-push_line-2.ensures.err)

@@ -24,8 +24,8 @@ returns c =
     let odd = closing_odd c.args.forest.now c.args.conflict c.in_ok-lines.lines.items up.0 c.add_way_up.new.lines.items line c.in_ok-lines.ensures up.2 all c.requires.ends in
     let nodes = c.args.forest.now.nodes.items in
     let down = c.in_ok-lines.ensures in
-    let lt : c.args.conflict.from < length nodes = slice_get_within nodes c.args.conflict.from down.node down.node_there in
+    let lt : c.args.conflict.from < length nodes = slice_get_within nodes c.args.conflict.from down.last down.last_there in
     let there : slice_get nodes c.args.conflict.from ≡ Some c.index.result.now = slice_get_read nodes (length nodes) c.args.conflict.from c.index.result.now refl lt c.index.ensures in
-    let same : c.index.result.now ≡ down.node = same_Some c.index.result.now down.node (sym there ∙ down.node_there) in
-    let is : line ≡ record { pair = down.node.pair; why = c.args.conflict.why } = ap (λ (n : Node). record { pair = n.pair; why = c.args.conflict.why }) same in
+    let same : c.index.result.now ≡ down.last = same_Some c.index.result.now down.last (sym there ∙ down.last_there) in
+    let is : line ≡ record { pair = down.last.pair; why = c.args.conflict.why } = ap (λ (n : Node). record { pair = n.pair; why = c.args.conflict.why }) same in
     λ k rows s. rw c.from_lines.ensures (closing_walk c.args.forest.now c.args.conflict c.in_ok-lines.lines.items up.0 c.add_way_up.new.lines.items line down up.2 all k rows s is odd)

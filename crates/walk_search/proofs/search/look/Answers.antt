@@ -1,10 +1,11 @@
-use Rattle.std.proofs.Common.{◌≡◌, ◌∙◌, ℕ, ◌+◌, ◌<◌, ◌≤◌, true, false, Some, List, length, take, drop, slice_get, IsTrue, refl, ap, sym, subst, arith}
+use Rattle.std.proofs.Common.{◌≡◌, ◌∙◌, ℕ, ◌+◌, ◌<◌, ◌≤◌, true, false, Some, List, length, take, drop, slice_get, IsTrue, IsFalse, refl, ap, sym, subst, arith}
 use Rattle.std.proofs.lemmas.Option.{same_Some, slice_get_read, slice_get_within}
 use Rattle.std.proofs.lemmas.Bool.{both_ways}
 use Rattle.column_order.specs.Orders.{has}
 use Rattle.row_model.specs.Graph.{pair, row_at, IsPair}
 use Rattle.walk_search.specs.declared.forest.Node.{Node}
 use Rattle.walk_search.specs.MarkedOnes.{marked_ones}
+use Rattle.walk_search.specs.Search.{IsSearch, IsReachedAlong, Grows}
 use Rattle.pair_classes.specs.Marks.{is_marked}
 use Rattle.pair_classes.proofs.Items.{held_some, item_end, none_of}
 use Rattle.walk_search.proofs.MarkedOnes.{marked_again, marked_anew}
@@ -13,7 +14,7 @@ use Rattle.walk_search.proofs.HolderLaws.{further_member}
 use Rattle.walk_search.proofs.SearchLaws.{IsSpreading, spreading_turned, next_pair, crossed, spreading_more, looked, spreading_all, further_row}
 use Rattle.walk_search.proofs.search.look.Given as given
 use Rattle.walk_search.proofs.search.look.Goals as goal
-use Rattle.walk_search.proofs.search.look.Goals.{After-mark, In-Some, After-next_counted}
+use Rattle.walk_search.proofs.search.look.Goals.{After-mark, After-has_counted, In-Some, After-next_counted}
 
 -- what is known where a node is taken and a further row is looked at: the node stands at its index, its pair is within the tables, the
 -- row is one of those that are searched, and has the pair's first column
@@ -57,28 +58,32 @@ first_look g c new =
     let some = held_some (row_at rest c.args.further) node.pair.a k.held in
     (omega (arith, ones, ap length k.behind), omega (arith, some, ap length k.behind))
 
+-- where the row is read no further, the search stays as it is, if there is nothing more to reach
+stays : (g : given.Over) (c : After-mark g) → (IsFalse (has (row_at (drop c.args.near.now.first c.args.m.now.rows) c.args.further) c.index-node.result.now.pair.b)
+    → IsReachedAlong c.args.forest.now.nodes.items c.index-node.result.now.pair.b (row_at (drop c.args.near.now.first c.args.m.now.rows) c.args.further)) →
+    IsSearch c.args.m.now c.args.near.now.first c.mark.new.self c.args.forest.now × Grows c.args.marks.now c.mark.new.self c.args.forest.now.nodes.items c.args.forest.now.nodes.items × (c.args.forest.now.root ≡ c.args.forest.now.root)
+    × ((other : Node) → slice_get c.args.forest.now.nodes.items c.args.from ≡ Some other → is_marked c.mark.new.self c.args.further other.pair.b ≡ true)
+stays g c along =
+    let old = c.args.forest.now in
+    let same = grown_refl c.args.m.now.columns (take (c.args.near.now.first + c.args.marks.now.rows) c.args.m.now.rows) old c.requires.search.is_forest in
+    looked c.args.m.now c.args.near.now.first c.args.marks.now c.mark.new.self old old c.args.from c.args.further c.index-node.result.now c.requires.search (looks g c).there c.requires.row.0 c.requires.row.1 c.mark.ensures.after same along
+
+-- where the row has the column, this was seen by a read
+has_column : (g : given.Over) (c : After-has_counted g) → row_at (drop c.args.near.now.first c.args.m.now.rows) c.args.further ≡ row_at c.args.m.now.rows (c.args.near.now.first + c.args.further) → c.has_counted.result ≡ true →
+    IsTrue (has (row_at (drop c.args.near.now.first c.args.m.now.rows) c.args.further) c.index-node.result.now.pair.b)
+has_column g c behind seen = ap (λ (r : List ℕ). has r c.index-node.result.now.pair.b) behind ∙ sym c.has_counted.ensures.has ∙ seen
+
 pub returns-then-mark-clause-found : goal.returns-then-mark-clause-found
 returns-then-mark-clause-found g c =
-    let m = c.args.m.now in
-    let old = c.args.forest.now in
-    let node : Node = c.index-node.result.now in
-    let k = looks g (goal.at.returns-then-mark-clause-found g c).After-mark in
+    let place = (goal.at.returns-then-mark-clause-found g c).After-mark in
     let was = sym c.mark.ensures.before ∙ c.if-mark.true in
-    let same = grown_refl m.columns (take (c.args.near.now.first + c.args.marks.now.rows) m.rows) old c.requires.search.is_forest in
-    looked m c.args.near.now.first c.args.marks.now c.mark.new.self old old c.args.from c.args.further node c.requires.search k.there c.requires.row.0 c.requires.row.1 c.mark.ensures.after same
-    (c.requires.search.spread c.args.further node.pair.b c.requires.row.0 c.requires.row.1 k.from_1 was)
+    stays g place (c.requires.search.spread c.args.further c.index-node.result.now.pair.b c.requires.row.0 c.requires.row.1 (looks g place).from_1 was)
 
 pub returns-then-has_counted-clause-found : goal.returns-then-has_counted-clause-found
 returns-then-has_counted-clause-found g c =
-    let m = c.args.m.now in
-    let old = c.args.forest.now in
-    let node : Node = c.index-node.result.now in
-    let k = looks g (goal.at.returns-then-has_counted-clause-found g c).After-mark in
-    let held = row_at (drop c.args.near.now.first m.rows) c.args.further in
-    let held_b : IsTrue (has held node.pair.b) = ap (λ (r : List ℕ). has r node.pair.b) k.behind ∙ sym c.has_counted.ensures.has ∙ c.if-has_counted.true in
-    let same = grown_refl m.columns (take (c.args.near.now.first + c.args.marks.now.rows) m.rows) old c.requires.search.is_forest in
-    looked m c.args.near.now.first c.args.marks.now c.mark.new.self old old c.args.from c.args.further node c.requires.search k.there c.requires.row.0 c.requires.row.1 c.mark.ensures.after same
-    (λ n. absurd (both_ways (has held node.pair.b) n held_b))
+    let place = goal.at.returns-then-has_counted-clause-found g c in
+    let held = row_at (drop c.args.near.now.first c.args.m.now.rows) c.args.further in
+    stays g place.After-mark (λ n. absurd (both_ways (has held c.index-node.result.now.pair.b) n (has_column g place.After-has_counted (looks g place.After-mark).behind c.if-has_counted.true)))
 
 -- the column that is read is the next one of the row
 read_next : (g : given.Over) (c : In-Some g) → slice_get (row_at (drop c.args.near.now.first c.args.m.now.rows) c.args.further) c.loop-column.i ≡ Some c.in-Some.column
@@ -218,11 +223,10 @@ returns-then-mark-clause-turns g c = λ _ node e fresh lacks.
 
 pub returns-then-has_counted-clause-turns : goal.returns-then-has_counted-clause-turns
 returns-then-has_counted-clause-turns g c = λ _ node e fresh lacks.
-    let place = (goal.at.returns-then-has_counted-clause-turns g c).After-mark in
-    let same = the_node g place node e in
+    let place = goal.at.returns-then-has_counted-clause-turns g c in
+    let same = the_node g place.After-mark node e in
     let held = row_at (drop c.args.near.now.first c.args.m.now.rows) c.args.further in
-    let held_b : IsTrue (has held c.index-node.result.now.pair.b) = ap (λ (r : List ℕ). has r c.index-node.result.now.pair.b) (looks g place).behind ∙ sym c.has_counted.ensures.has ∙ c.if-has_counted.true in
-    absurd (both_ways (has held node.pair.b) lacks (subst (λ (n : Node). IsTrue (has held n.pair.b)) same held_b))
+    absurd (both_ways (has held node.pair.b) lacks (subst (λ (n : Node). IsTrue (has held n.pair.b)) same (has_column g place.After-has_counted (looks g place.After-mark).behind c.if-has_counted.true)))
 
 pub returns-clause-turns : goal.returns-clause-turns
 returns-clause-turns g c = λ _ node e fresh lacks.

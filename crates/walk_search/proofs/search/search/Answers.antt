@@ -1,4 +1,4 @@
-use Rattle.std.proofs.Common.{◌≡◌, ◌∙◌, ℕ, ◌+◌, ◌-◌, ◌*◌, ◌≤◌, Vec, Global, length, take, drop, sum_by, sym, subst, inl, inr, arith}
+use Rattle.std.proofs.Common.{◌≡◌, ◌∙◌, ℕ, ◌+◌, ◌-◌, ◌*◌, ◌≤◌, Vec, Global, length, take, drop, sum_by, sym, subst, inl, inr, arith, rules}
 use Rattle.std.proofs.lemmas.Nat.{mul-le}
 use Rattle.std.proofs.lemmas.Option.{none-some}
 use Rattle.std.proofs.lemmas.List.{length-map}
@@ -184,17 +184,15 @@ returns-clause-costs g c = omega (arith, c.loop-turn.invariant.turns, c.loop-tur
 pub returns-clause-turns : goal.returns-clause-turns
 returns-clause-turns g c = λ _. omega (arith, c.loop-turn.invariant.turns, c.loop-turn-test.false, c.loop-turn.auto.turn-end, c.columns-columns.ensures.columns)
 
-pub returns-in_err-conflict-clause-ticks : goal.returns-in_err-conflict-clause-ticks
-returns-in_err-conflict-clause-ticks g c = turn_ticks g (goal.at.returns-in_err-conflict-clause-ticks g c).After-grow_from_column
+pub returns-in_err-conflict : goal.returns-in_err-conflict
+returns-in_err-conflict g c =
+    let at = (goal.at.returns-in_err-conflict g c).After-grow_from_column in
+    record { found = search rules; ticks = turn_ticks g at; square = turn_square g at; costs = search rules; turns = search rules }
 
-pub returns-in_err-conflict-clause-square : goal.returns-in_err-conflict-clause-square
-returns-in_err-conflict-clause-square g c = turn_square g (goal.at.returns-in_err-conflict-clause-square g c).After-grow_from_column
-
-pub returns-in_err-closed_walk-clause-ticks : goal.returns-in_err-closed_walk-clause-ticks
-returns-in_err-closed_walk-clause-ticks g c = turn_ticks g (goal.at.returns-in_err-closed_walk-clause-ticks g c).After-grow_from_column
-
-pub returns-in_err-closed_walk-clause-square : goal.returns-in_err-closed_walk-clause-square
-returns-in_err-closed_walk-clause-square g c = turn_square g (goal.at.returns-in_err-closed_walk-clause-square g c).After-grow_from_column
+pub returns-in_err-closed_walk : goal.returns-in_err-closed_walk
+returns-in_err-closed_walk g c =
+    let at = (goal.at.returns-in_err-closed_walk g c).After-grow_from_column in
+    record { found = search rules; ticks = turn_ticks g at; square = turn_square g at; costs = search rules; turns = search rules }
 
 pub returns-in-Some-clause-ticks : goal.returns-in-Some-clause-ticks
 returns-in-Some-clause-ticks g c = turn_ticks g (goal.at.returns-in-Some-clause-ticks g c).After-grow_from_column

@@ -1,76 +1,53 @@
-use Rattle.std.proofs.Common.{◌*◌, ◌≤◌, MatchOption, take, sum_by, length, subst, zero-add, arith}
+use Rattle.std.proofs.Common.{◌*◌, ◌≤◌, MatchOption, take, sum_by, length, subst, zero-add, arith, rules}
 use Rattle.std.proofs.lemmas.Nat.{mul-le}
 use Rattle.row_model.specs.Graph.{HasOddWalk}
 use Rattle.row_model.specs.Cycles.{IsOddWalk}
-use Rattle.walk_search.proofs.NearLaws.{near_none, within_bound, few_bound, square_bound}
+use Rattle.walk_search.proofs.NearLaws.{near_none, AreWithin, are_within}
+use Rattle.walk_search.proofs.search.walk_among.Given as given
 use Rattle.walk_search.proofs.search.walk_among.Goals as goal
+use Rattle.walk_search.proofs.search.walk_among.Goals.{After-rows_by_column, After-search}
+
+-- what is counted before the search
+held : (g : given.Over) (c : After-rows_by_column g) → AreWithin c.args.m.now.columns (sum_by length (take c.args.rows c.args.m.now.rows)) c.args.steps.now c.rows_by_column.new.steps
+held g c =
+    let ones = sum_by length (take c.args.rows c.args.m.now.rows) in
+    let some : 1 ≤ c.args.m.now.columns = omega (arith, c.columns-columns.ensures.range.0, c.columns-columns.ensures.columns) in
+    let once : 1 * ones ≤ c.args.m.now.columns * ones = mul-le 1 ones c.args.m.now.columns ones some (omega arith) in
+    are_within c.args.m.now.columns ones c.args.steps.now c.rows_by_column.new.steps some (omega (arith, c.rows_by_column.ensures.ticks, once)) (omega (arith, c.rows_by_column.ensures.ticks, once))
+
+-- and with the search
+searched : (g : given.Over) (c : After-search g) → AreWithin c.args.m.now.columns (sum_by length (take c.args.rows c.args.m.now.rows)) c.args.steps.now c.search.new.steps
+searched g c =
+    are_within c.args.m.now.columns (sum_by length (take c.args.rows c.args.m.now.rows)) c.args.steps.now c.search.new.steps
+    (omega (arith, c.columns-columns.ensures.range.0, c.columns-columns.ensures.columns))
+    (omega (arith, c.rows_by_column.ensures.ticks, rw (zero-add c.args.rows) at c.search.ensures.ticks))
+    (omega (arith, c.rows_by_column.ensures.ticks, rw (zero-add c.args.rows) at c.search.ensures.square))
 
 pub search-requires-clause-near : goal.search-requires-clause-near
 search-requires-clause-near g c =
     near_none c.args.m.now c.args.rows c.in_ok-holders.holders c.in_ok-holders.ensures.holders
 
-pub returns-clause-found : goal.returns-clause-found
-returns-clause-found g c =
-    subst
-    (λ n. MatchOption c.in_ok-found.found (HasOddWalk c.args.m.now.columns (take n c.args.m.now.rows) → ⊥) (IsOddWalk c.args.m.now.columns (take n c.args.m.now.rows)))
-    (zero-add c.args.rows)
-    c.in_ok-found.ensures.found
+pub returns-in_err-holders : goal.returns-in_err-holders
+returns-in_err-holders g c =
+    let w = held g (goal.at.returns-in_err-holders g c).After-rows_by_column in
+    record { found = search rules; ticks = w.ticks; few = w.few; square = w.square; reads = search rules; turns = search rules }
 
-pub returns-in_err-holders-clause-ticks : goal.returns-in_err-holders-clause-ticks
-returns-in_err-holders-clause-ticks g c =
-    let ones = sum_by length (take c.args.rows c.args.m.now.rows) in
-    let some : 1 ≤ c.args.m.now.columns = omega (arith, c.columns-columns.ensures.range.0, c.columns-columns.ensures.columns) in
-    let once : 1 * ones ≤ c.args.m.now.columns * ones = mul-le 1 ones c.args.m.now.columns ones some (omega arith) in
-    within_bound c.args.m.now.columns ones c.args.steps.now c.rows_by_column.new.steps some (omega (arith, c.rows_by_column.ensures.ticks, once))
+pub returns-in_err-found : goal.returns-in_err-found
+returns-in_err-found g c =
+    let w = searched g (goal.at.returns-in_err-found g c).After-search in
+    record { found = search rules; ticks = w.ticks; few = w.few; square = w.square; reads = search rules; turns = search rules }
 
-pub returns-in_err-holders-clause-few : goal.returns-in_err-holders-clause-few
-returns-in_err-holders-clause-few g c =
-    let ones = sum_by length (take c.args.rows c.args.m.now.rows) in
-    let some : 1 ≤ c.args.m.now.columns = omega (arith, c.columns-columns.ensures.range.0, c.columns-columns.ensures.columns) in
-    let once : 1 * ones ≤ c.args.m.now.columns * ones = mul-le 1 ones c.args.m.now.columns ones some (omega arith) in
-    few_bound c.args.m.now.columns ones c.args.steps.now c.rows_by_column.new.steps (omega (arith, c.rows_by_column.ensures.ticks, once))
-
-pub returns-in_err-holders-clause-square : goal.returns-in_err-holders-clause-square
-returns-in_err-holders-clause-square g c =
-    let ones = sum_by length (take c.args.rows c.args.m.now.rows) in
-    let some : 1 ≤ c.args.m.now.columns = omega (arith, c.columns-columns.ensures.range.0, c.columns-columns.ensures.columns) in
-    let once : 1 * ones ≤ c.args.m.now.columns * ones = mul-le 1 ones c.args.m.now.columns ones some (omega arith) in
-    square_bound c.args.m.now.columns ones c.args.steps.now c.rows_by_column.new.steps (omega (arith, c.rows_by_column.ensures.ticks, once))
-
-pub returns-in_err-found-clause-ticks : goal.returns-in_err-found-clause-ticks
-returns-in_err-found-clause-ticks g c =
-    let ones = sum_by length (take c.args.rows c.args.m.now.rows) in
-    let some : 1 ≤ c.args.m.now.columns = omega (arith, c.columns-columns.ensures.range.0, c.columns-columns.ensures.columns) in
-    within_bound c.args.m.now.columns ones c.args.steps.now c.search.new.steps some (omega (arith, c.rows_by_column.ensures.ticks, rw (zero-add c.args.rows) at c.search.ensures.ticks))
-
-pub returns-in_err-found-clause-few : goal.returns-in_err-found-clause-few
-returns-in_err-found-clause-few g c =
-    let ones = sum_by length (take c.args.rows c.args.m.now.rows) in
-    few_bound c.args.m.now.columns ones c.args.steps.now c.search.new.steps (omega (arith, c.rows_by_column.ensures.ticks, rw (zero-add c.args.rows) at c.search.ensures.ticks))
-
-pub returns-in_err-found-clause-square : goal.returns-in_err-found-clause-square
-returns-in_err-found-clause-square g c =
-    let ones = sum_by length (take c.args.rows c.args.m.now.rows) in
-    square_bound c.args.m.now.columns ones c.args.steps.now c.search.new.steps (omega (arith, c.rows_by_column.ensures.ticks, rw (zero-add c.args.rows) at c.search.ensures.square))
-
-pub returns-clause-ticks : goal.returns-clause-ticks
-returns-clause-ticks g c =
-    let ones = sum_by length (take c.args.rows c.args.m.now.rows) in
-    let some : 1 ≤ c.args.m.now.columns = omega (arith, c.columns-columns.ensures.range.0, c.columns-columns.ensures.columns) in
-    within_bound c.args.m.now.columns ones c.args.steps.now c.search.new.steps some (omega (arith, c.rows_by_column.ensures.ticks, rw (zero-add c.args.rows) at c.search.ensures.ticks))
-
-pub returns-clause-few : goal.returns-clause-few
-returns-clause-few g c =
-    let ones = sum_by length (take c.args.rows c.args.m.now.rows) in
-    few_bound c.args.m.now.columns ones c.args.steps.now c.search.new.steps (omega (arith, c.rows_by_column.ensures.ticks, rw (zero-add c.args.rows) at c.search.ensures.ticks))
-
-pub returns-clause-square : goal.returns-clause-square
-returns-clause-square g c =
-    let ones = sum_by length (take c.args.rows c.args.m.now.rows) in
-    square_bound c.args.m.now.columns ones c.args.steps.now c.search.new.steps (omega (arith, c.rows_by_column.ensures.ticks, rw (zero-add c.args.rows) at c.search.ensures.square))
-
-pub returns-clause-reads : goal.returns-clause-reads
-returns-clause-reads g c = omega (arith, c.in_ok-holders.ensures.turns, c.in_ok-found.ensures.costs)
-
-pub returns-clause-turns : goal.returns-clause-turns
-returns-clause-turns g c = λ none. omega (arith, c.in_ok-holders.ensures.turns, c.in_ok-found.ensures.turns none)
+pub returns : goal.returns
+returns g c =
+    let w = searched g (goal.at.returns g c).After-search in
+    record {
+      found = subst
+          (λ n. MatchOption c.in_ok-found.found (HasOddWalk c.args.m.now.columns (take n c.args.m.now.rows) → ⊥) (IsOddWalk c.args.m.now.columns (take n c.args.m.now.rows)))
+          (zero-add c.args.rows)
+          c.in_ok-found.ensures.found;
+      ticks = w.ticks;
+      few = w.few;
+      square = w.square;
+      reads = omega (arith, c.in_ok-holders.ensures.turns, c.in_ok-found.ensures.costs);
+      turns = λ none. omega (arith, c.in_ok-holders.ensures.turns, c.in_ok-found.ensures.turns none);
+    }

@@ -24,15 +24,15 @@ returns-in-Err-clause-lines c later =
     ∙ ap (λ (shape : Result Shape ℕ). lists_behind number shape rest) c.in-Err.ensures.shape
     ∙ ap (lists_headed c.args.heading) (sym first ∙ c.loop-at.invariant.so_far later)
 
-pub returns-in-Ok-clause-lines : goal.returns-in-Ok-clause-lines
-returns-in-Ok-clause-lines c =
+pub returns-in_ok-new-in-Ok-clause-lines : goal.returns-in_ok-new-in-Ok-clause-lines
+returns-in_ok-new-in-Ok-clause-lines c =
     let text = c.args.text.now in
     let number = c.loop-at.number + 1 in
     let span = c.line_from-span.result in
     let found = c.line_from-span.ensures in
     let line : List ℕ = slice_range text span.start span.end in
     let filled : is_blank line ≡ false = sym c.is_blank.ensures ∙ c.if-not-is_blank.true in
-    let edges = c.new.result in
+    let edges = c.in_ok-new-in-Ok.field-0 in
     IfOk-weaker c.further_lines.result
     (λ (new : LinesRead). (later : List (List ℕ)) → lines_then new later ≡ lists_then edges.shape edges.places.items (filled_lines (number + 1) (lines_of (drop span.next text) ++ later)))
     (λ (new : LinesRead). (later : List (List ℕ)) → lines_then new later ≡ lists_headed c.args.heading (filled_lines (c.args.passed + 1) (lines_of text ++ later)))
@@ -40,8 +40,8 @@ returns-in-Ok-clause-lines c =
     let rest : List NumberedLine = filled_lines (number + 1) (lines_of (drop span.next text) ++ later) in
     let first = filled_first number line (lines_of (drop c.loop-at.at text)) (lines_of (drop span.next text)) later found.lines filled in
     made later
-    ∙ ap (λ (shape : Shape). lists_then shape edges.places.items rest) c.new.ensures.shape
-    ∙ then_none c.in-Ok.shape edges.places.items rest c.new.ensures.places
+    ∙ ap (λ (shape : Shape). lists_then shape edges.places.items rest) c.in_ok-new-in-Ok.ensures.shape
+    ∙ then_none c.in-Ok.shape edges.places.items rest c.in_ok-new-in-Ok.ensures.places
     ∙ ap (λ (shape : Result Shape ℕ). lists_behind number shape rest) c.in-Ok.ensures.shape
     ∙ ap (lists_headed c.args.heading) (sym first ∙ c.loop-at.invariant.so_far later))
     c.further_lines.ensures.lines

@@ -9,6 +9,6 @@ pub invariant_of-result : goal.invariant_of-result
 invariant_of-result c = record {
   left = c.requires.left;
   right = c.requires.right;
-  within = rw c.new.ensures.items (All-nil (λ place. place < left_of c.args.shape * right_of c.args.shape));
-  placed = merely (placed_none c.args.shape c.new.result.items c.new.ensures.items);
+  within = rw c.in_ok-places.ensures.items (All-nil (λ place. place < left_of c.args.shape * right_of c.args.shape));
+  placed = merely (placed_none c.args.shape c.in_ok-places.places.items c.in_ok-places.ensures.items);
 }

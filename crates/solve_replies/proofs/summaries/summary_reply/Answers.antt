@@ -1,4 +1,4 @@
-use Rattle.std.proofs.Common.{◌≡◌, ◌∙◌, ◌+◌, ◌++◌, ℕ, List, length, sym, ap, subst, arith}
+use Rattle.std.proofs.Common.{◌≡◌, ◌∙◌, ◌+◌, ◌≤◌, ◌++◌, ℕ, List, length, sym, ap, subst, arith}
 use Rattle.std.specs.Prelude.{codes}
 use Rattle.std.specs.Fmt.{decimal}
 use Rattle.column_order.proofs.Counts.{order_length}
@@ -10,21 +10,23 @@ use Rattle.solve_replies.specs.Generated.{generated}
 use Rattle.solve_replies.specs.Summaries.{weight}
 use Rattle.solve_replies.proofs.Drawn.{drawn_count}
 use Rattle.solve_replies.proofs.Counted.{few_nodes}
-use Rattle.solve_replies.proofs.summaries.summary.Goals as goal
+use Rattle.solve_replies.proofs.summaries.summary_reply.Given as given
+use Rattle.solve_replies.proofs.summaries.summary_reply.Goals as goal
+use Rattle.solve_replies.proofs.summaries.summary_reply.Goals.{After-root}
+
+-- the tree has fewer nodes that are no leaves than columns
+few : (g : given.Over) (c : After-root g) → weight 1 0 (outline_of c.root.result.now) + weight 0 1 (outline_of c.root.result.now) + 1 ≤ c.args.columns
+few g c =
+    let tree = c.in_ok-grown.grown.tree in
+    let all : HasAllOrders (generated c.args.seed c.args.columns c.args.rows) tree = c.in_ok-grown.ensures.tree in
+    let proper : IsProper tree.columns (outline_of c.root.result.now) = subst (IsProper tree.columns) (sym c.root.ensures) tree.proper in
+    omega (arith, few_nodes (outline_of c.root.result.now) proper.0, order_length tree.columns (leaves (outline_of c.root.result.now)) proper.1, all.columns)
 
 pub count_nodes-requires-clause-p : goal.count_nodes-requires-clause-p
-count_nodes-requires-clause-p g c =
-    let tree = c.in_ok-grown.grown.tree in
-    let all : HasAllOrders (generated c.args.seed c.args.columns c.args.rows) tree = c.in_ok-grown.ensures.tree in
-    let proper : IsProper tree.columns (outline_of c.root.result.now) = subst (IsProper tree.columns) (sym c.root.ensures) tree.proper in
-    omega (arith, few_nodes (outline_of c.root.result.now) proper.0, order_length tree.columns (leaves (outline_of c.root.result.now)) proper.1, all.columns, c.requires.columns)
+count_nodes-requires-clause-p g c = omega (arith, few g (goal.at.count_nodes-requires-clause-p g c).After-root, c.requires.columns)
 
 pub count_nodes-requires-clause-q : goal.count_nodes-requires-clause-q
-count_nodes-requires-clause-q g c =
-    let tree = c.in_ok-grown.grown.tree in
-    let all : HasAllOrders (generated c.args.seed c.args.columns c.args.rows) tree = c.in_ok-grown.ensures.tree in
-    let proper : IsProper tree.columns (outline_of c.root.result.now) = subst (IsProper tree.columns) (sym c.root.ensures) tree.proper in
-    omega (arith, few_nodes (outline_of c.root.result.now) proper.0, order_length tree.columns (leaves (outline_of c.root.result.now)) proper.1, all.columns, c.requires.columns)
+count_nodes-requires-clause-q g c = omega (arith, few g (goal.at.count_nodes-requires-clause-q g c).After-root, c.requires.columns)
 
 from_zero : (n : ℕ) → 0 + n ≡ n
 from_zero n = omega arith
@@ -38,8 +40,8 @@ lines_same : (c : ℕ) {rows rows' ones ones' p p' q q' : ℕ} → rows ≡ rows
 lines_same c {rows} {rows'} {ones} {ones'} {p} {p'} {q} {q'} e f g h =
     ap (λ n. summary_lines c n ones p q) e ∙ ap (λ n. summary_lines c rows' n p q) f ∙ ap (λ n. summary_lines c rows' ones' n q) g ∙ ap (λ n. summary_lines c rows' ones' p' n) h
 
-pub returns-clause-text : goal.returns-clause-text
-returns-clause-text g c =
+pub returns-clause-summary : goal.returns-clause-summary
+returns-clause-summary g c =
     let m = generated c.args.seed c.args.columns c.args.rows in
     let t = outline c.in_ok-grown.grown.tree in
     let all : HasAllOrders m c.in_ok-grown.grown.tree = c.in_ok-grown.ensures.tree in

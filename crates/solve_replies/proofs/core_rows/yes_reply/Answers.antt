@@ -7,7 +7,7 @@ use Rattle.pq_tree.specs.Proper.{IsProper}
 use Rattle.pq_tree.specs.PqTree.{outline}
 use Rattle.verdict_replies.specs.Verdicts.{IsVerdictReply}
 use Rattle.solve_replies.proofs.Cores.{yes_reply}
-use Rattle.solve_replies.proofs.core_rows.yes_text.Goals as goal
+use Rattle.solve_replies.proofs.core_rows.yes_reply.Goals as goal
 
 pub yes_on-requires : goal.yes_on-requires
 yes_on-requires c =
@@ -29,10 +29,10 @@ yes_on-requires c =
       orders = rw is (all, valid);
     }
 
-pub returns : goal.returns
-returns c kind e =
+pub returns-clause-text : goal.returns-clause-text
+returns-clause-text c kind e =
     let t = c.args.tree in
     let o = c.requires.orders in
     let valid : HasValidOrder c.args.m.now.columns c.args.m.now.rows = (leaves (outline t), (o.orders (leaves (outline t))).0 (c.leaves_law.ensures (outline t))) in
-    let reply = c.in_ok-told.ensures.reply (instance_value c.args.instance.now) c.in_ok-verdict.ensures.holds in
-    yes_reply kind c.args.m.now c.in_ok-told.field-0.status c.in_ok-told.field-0.text.items valid (subst (λ i. IsVerdictReply i c.in_ok-told.field-0.status c.in_ok-told.field-0.text.items) e reply)
+    let reply = c.in_ok-text.ensures.reply (instance_value c.args.instance.now) c.in_ok-verdict.ensures.holds in
+    yes_reply kind c.args.m.now c.in_ok-text.field-0.status c.in_ok-text.field-0.text.items valid (subst (λ i. IsVerdictReply i c.in_ok-text.field-0.status c.in_ok-text.field-0.text.items) e reply)

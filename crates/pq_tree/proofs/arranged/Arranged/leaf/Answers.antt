@@ -1,6 +1,6 @@
 use Rattle.pq_tree.proofs.Shown.{outline_of-Leaf}
 use Rattle.pq_tree.proofs.Canonical.{canonical_leaf, least_leaf}
-use Rattle.pq_tree.proofs.arrange.arranged_leaf.Goals as goal
+use Rattle.pq_tree.proofs.arranged.Arranged.leaf.Goals as goal
 
 pub invariant_of-result : goal.invariant_of-result
 invariant_of-result c = record { canonical = canonical_leaf c.args.column; is_least = least_leaf c.args.column }
