@@ -60,7 +60,12 @@ impl Matrix {
     /// # Errors
     ///
     /// `NoMemory` where there is no memory for it.
-    pub fn with_room(alloc: Global, columns: u32, rows: usize, ones: usize) -> Result<Self, NoMemory>
+    pub fn with_room(
+        alloc: Global,
+        columns: u32,
+        rows: usize,
+        ones: usize,
+    ) -> Result<Self, NoMemory>
         requires { (1 ≤ columns) × (columns ≤ COLUMN_BOUND) }
         ensures { IfOk result (λ m. m ≡ record { columns = columns; rows = [] }) }
     {
