@@ -61,12 +61,12 @@ impl InstanceReader {
             → instance_with taken.0 (drop taken.1 text.now ++ rest) ≡ instance_with self (text.now ++ rest)) }
     {
         Ok(match self {
-            Self::Matrix(dense) => after(dense.take(alloc, text)?, Self::Matrix),
-            Self::Circular(dense) => after(dense.take(alloc, text)?, Self::Circular),
-            Self::Rows(rows) => after(rows.take(alloc, text)?, Self::Rows),
-            Self::Convex(graph) => after(graph.take(alloc, text)?, Self::Convex),
-            Self::Doubly(graph) => after(graph.take(alloc, text)?, Self::Doubly),
-            Self::Proper(graph) => after(graph.take(alloc, text)?, Self::Proper),
+            Self::Matrix(dense) => taken_as(dense.take(alloc, text)?, Self::Matrix),
+            Self::Circular(dense) => taken_as(dense.take(alloc, text)?, Self::Circular),
+            Self::Rows(rows) => taken_as(rows.take(alloc, text)?, Self::Rows),
+            Self::Convex(graph) => taken_as(graph.take(alloc, text)?, Self::Convex),
+            Self::Doubly(graph) => taken_as(graph.take(alloc, text)?, Self::Doubly),
+            Self::Proper(graph) => taken_as(graph.take(alloc, text)?, Self::Proper),
         })
     }
 
@@ -99,7 +99,10 @@ impl InstanceReader {
 }
 
 // A reader of one kind of file that took so many bytes, as one of instances.
-fn after<R, F: FnOnce(R) -> InstanceReader>(taken: (R, usize), reader: F) -> (InstanceReader, usize)
+fn taken_as<R, F: FnOnce(R) -> InstanceReader>(
+    taken: (R, usize),
+    reader: F,
+) -> (InstanceReader, usize)
     requires { F.pre reader taken.0 }
     ensures reader { F.post reader taken.0 result.0 }
     ensures taken { result.1 ≡ taken.1 }

@@ -6,7 +6,7 @@ ghost use Rattle.order_list.specs.Propositions.{StandsLow-prop};
 
 use pq_tree::Tree;
 
-/// A tree that stands so that each part begins with the least column with which it can, with its first column.
+/// A tree in which each part begins with the least column with which it can, and its first column.
 #[derive(Drop)]
 pub struct Low {
     pub tree: Tree,

@@ -11,8 +11,8 @@ use crate::low::Low;
 use pq_tree::{Tree, View};
 use std::alloc::Global;
 
-/// The tree with the same frontiers that stands so. Each subtree's first column comes back with it, so each node is
-/// looked at once.
+/// The tree with the same frontiers in which each part begins with the least column with which it can. Each subtree's
+/// first column comes back with it, so each node is looked at once.
 #[cycle(turn)]
 pub fn low_tree(alloc: Global, tree: &Tree) -> Result<Low, NoMemory>
     ensures { IfOk result (λ low. IsEquivalent (outline_of tree.now) (outline_low low)) }
@@ -75,7 +75,7 @@ fn low_p(alloc: Global, children: Vec<Low>) -> Result<Low, NoMemory>
     requires { FirstsRise (forest (map outline_low children.items)) }
     ensures { IfOk result (λ low. outline_low low ≡ p_node (forest (map outline_low children.items))) }
 {
-    let (trees, first) = bare_trees(alloc, children)?;
+    let (trees, first) = trees_and_first(alloc, children)?;
     Ok(with_first(Tree::p(trees), first))
 }
 
@@ -84,11 +84,11 @@ fn low_q(alloc: Global, children: Vec<Low>) -> Result<Low, NoMemory>
     requires { EndsLow (forest (map outline_low children.items)) }
     ensures { IfOk result (λ low. outline_low low ≡ q_node (forest (map outline_low children.items))) }
 {
-    let (trees, first) = bare_trees(alloc, children)?;
+    let (trees, first) = trees_and_first(alloc, children)?;
     Ok(with_first(Tree::q(trees), first))
 }
 
-// A tree that stands so, with its first column.
+// Such a tree, with its first column.
 fn with_first(tree: Tree, first: u32) -> Low
     requires { StandsLow (outline_of tree) × (first ≡ first_column (outline_of tree)) }
     ensures { outline_low result ≡ outline_of tree }
@@ -97,7 +97,7 @@ fn with_first(tree: Tree, first: u32) -> Low
 }
 
 // The trees alone, and the first column of the first tree, 0 where there is none.
-fn bare_trees(alloc: Global, all: Vec<Low>) -> Result<(Vec<Tree>, u32), NoMemory>
+fn trees_and_first(alloc: Global, all: Vec<Low>) -> Result<(Vec<Tree>, u32), NoMemory>
     ensures trees { IfOk result (λ bare. map outline_of bare.0.items ≡ map outline_low all.items) }
     ensures first { IfOk result (λ bare. bare.1 ≡ first_of (forest (map outline_low all.items))) }
 {

@@ -1,6 +1,6 @@
 //! Q-nodes in canonical form, made from children that are put one by one.
 
-ghost use Rattle.std.specs.Prelude.{◌≡◌, ◌-◌, ◌++◌, [], ◌∷◌, map, length, slice_index, IfOk, OnOk};
+ghost use Rattle.std.specs.Prelude.{◌≡◌, ◌-◌, ◌++◌, [], ◌∷◌, map, length, slice_index, IfOk, OnOk, OnErr};
 ghost use Rattle.pq_tree.specs.Outline.{q_node};
 ghost use Rattle.pq_tree.specs.Proper.{outline_of, forest};
 ghost use Rattle.pq_tree.specs.Equivalent.{IsEquivalent};
@@ -51,7 +51,8 @@ impl QChildren {
     ///
     /// `NoMemory` where the allocator has no room for one more.
     pub fn push(&mut self, child: Arranged) -> Result<(), NoMemory>
-        ensures { OnOk result (children_in self.new ≡ children_in self.old ++ outline_in child ∷ []) }
+        ensures ok { OnOk result (children_in self.new ≡ children_in self.old ++ outline_in child ∷ []) }
+        ensures err { OnErr result (children_in self.new ≡ children_in self.old) }
     {
         let column = child.least_column;
         let (first, least) = if self.trees.is_empty() {

@@ -30,13 +30,13 @@ fn push_head(vertices: u32, length: u64, text: &mut Vec<u8>) -> Result<(), NoMem
     ensures ok { OnOk result (text.new.items ≡ text.old.items ++ unit_head vertices length) }
     ensures err { OnErr result (Extends text.old.items text.new.items) }
 {
-    push_line(b"pq-unit 1\nvertices ", u64::from(vertices), text)?;
-    push_line(b"length ", length, text)?;
+    push_up_to_end(b"pq-unit 1\nvertices ", u64::from(vertices), text)?;
+    push_up_to_end(b"length ", length, text)?;
     Ok(())
 }
 
-// Appends a word, a number and the end of the line.
-fn push_line(word: &[u8], n: u64, text: &mut Vec<u8>) -> Result<(), NoMemory>
+// Appends a word and a number, up to the end of the line.
+fn push_up_to_end(word: &[u8], n: u64, text: &mut Vec<u8>) -> Result<(), NoMemory>
     ensures ok { OnOk result (text.new.items ≡ text.old.items ++ (word.now ++ (decimal n ++ 10 ∷ []))) }
     ensures err { OnErr result (Extends text.old.items text.new.items) }
 {
@@ -72,6 +72,6 @@ fn push_left(i: u64, left: u64, text: &mut Vec<u8>) -> Result<(), NoMemory>
 {
     push(text, b"unit ")?;
     push_number(text, i)?;
-    push_line(b" ", left, text)?;
+    push_up_to_end(b" ", left, text)?;
     Ok(())
 }

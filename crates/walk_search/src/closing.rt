@@ -34,7 +34,7 @@ fn way_down(alloc: Global, forest: &Forest, to: u32) -> Result<Vec<Line>, NoMemo
     let mut lines = Vec::new(alloc);
     let mut at = to;
     while at > forest.root {
-        let node = node_above(forest, at);
+        let node = node_below_root(forest, at);
         let parent = forest.nodes[node.parent as usize];
         lines.push(Line {
             pair: parent.pair,
@@ -54,7 +54,7 @@ fn add_way_up(forest: &Forest, from: u32, lines: &mut Vec<Line>) -> Result<(), N
 {
     let mut at = from;
     while at > forest.root {
-        let node = node_above(forest, at);
+        let node = node_below_root(forest, at);
         lines.push(Line {
             pair: node.pair,
             why: node.why,
@@ -65,7 +65,7 @@ fn add_way_up(forest: &Forest, from: u32, lines: &mut Vec<Line>) -> Result<(), N
 }
 
 // A node of the last tree that is not its root. Its parent stands before it.
-fn node_above(forest: &Forest, at: u32) -> Node
+fn node_below_root(forest: &Forest, at: u32) -> Node
     requires tree { IsTree forest.now.root forest.now.nodes.items }
     requires above { (forest.now.root < at) × (at < length forest.now.nodes.items) }
     ensures there { slice_get forest.now.nodes.items at ≡ Some result }

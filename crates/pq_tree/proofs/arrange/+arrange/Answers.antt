@@ -21,4 +21,4 @@ arranged_trees-loop-tree-preserved t c =
 
 pub arranged_children-loop-tree-preserved : goal.arranged_children-loop-tree-preserved
 arranged_children-loop-tree-preserved t c =
-    equivalent_more outline_of _ _ _ _ _ _ _ c.loop-tree-test.true c.tree-item.is c.in_ok-push.ensures c.loop-tree.invariant c.in_ok-arranged_tree.ensures
+    equivalent_more outline_of _ _ _ _ _ _ _ c.loop-tree-test.true c.tree-item.is c.in_ok-push.ensures.ok c.loop-tree.invariant c.in_ok-arranged_tree.ensures

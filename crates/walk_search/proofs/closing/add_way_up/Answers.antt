@@ -18,7 +18,7 @@ loop-at-init c =
 
 pub loop-at-preserved : goal.loop-at-preserved
 loop-at-preserved c =
-    let node : Node = c.node_above-node.result in
+    let node : Node = c.node_below_root-node.result in
     let line : Line = record { pair = node.pair; why = node.why } in
     let was = c.loop-at.invariant.added in
     let parent = item_at c.args.forest.now.nodes.items node.parent (omega arith) in
@@ -28,7 +28,7 @@ loop-at-preserved c =
       added = record {
         way = was.way ++ line ∷ [];
         appended = pushed ∙ ap (λ (ls : List Line). ls ++ line ∷ []) was.appended ∙ append_assoc c.args.lines.now.items was.way (line ∷ []);
-        leads = way_on c.args.forest.now c.loop-at.at node parent.0 c.requires.tree c.loop-at-test.true c.node_above-node.ensures.there parent.1 c.args.from was.way was.leads;
+        leads = way_on c.args.forest.now c.loop-at.at node parent.0 c.requires.tree c.loop-at-test.true c.node_below_root-node.ensures.there parent.1 c.args.from was.way was.leads;
       };
     }
 

@@ -17,7 +17,7 @@ loop-at-init c =
 pub loop-at-preserved : goal.loop-at-preserved
 loop-at-preserved c =
     let nodes = c.args.forest.now.nodes.items in
-    let node : Node = c.node_above-node.result in
+    let node : Node = c.node_below_root-node.result in
     let parent : Node = c.index-parent.result.now in
     let line : Line = record { pair = parent.pair; why = node.why } in
     let up : slice_get nodes node.parent ≡ Some parent = slice_get_read nodes (length nodes) node.parent parent refl (omega arith) c.index-parent.ensures in
@@ -26,7 +26,7 @@ loop-at-preserved c =
     record {
       within = omega arith;
       way = subst (IsWay c.args.forest.now node.parent c.args.to) back
-          (way_before c.args.forest.now c.loop-at.at node parent c.requires.tree c.loop-at-test.true c.node_above-node.ensures.there up c.args.to (reverse c.loop-at.lines.items) c.loop-at.invariant.way);
+          (way_before c.args.forest.now c.loop-at.at node parent c.requires.tree c.loop-at-test.true c.node_below_root-node.ensures.there up c.args.to (reverse c.loop-at.lines.items) c.loop-at.invariant.way);
     }
 
 pub returns : goal.returns

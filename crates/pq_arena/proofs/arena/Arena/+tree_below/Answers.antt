@@ -63,7 +63,7 @@ tree_below-requires-in-loop-number-2 t c =
 pub loop-number-2-preserved : goal.loop-number-2-preserved
 loop-number-2-preserved t c =
     equivalent_more (outline_below c.args.self.now) c.deref-number-items-in-Q.result.now _ _ c.loop-number-2.number-index 0 _ _ c.loop-number-2-test.true refl
-    c.in_ok-push-in-Q.ensures c.loop-number-2.invariant c.in_ok-tree_below-in-Q.ensures
+    c.in_ok-push-in-Q.ensures.ok c.loop-number-2.invariant c.in_ok-tree_below-in-Q.ensures
 
 pub returns-after-loop-number-2 : goal.returns-after-loop-number-2
 returns-after-loop-number-2 t c =

@@ -1,7 +1,7 @@
 use Rattle.std.proofs.Common.{◌≡◌, length, slice_get, Some, refl}
 use Rattle.std.proofs.lemmas.Option.{slice_get_read}
 use Rattle.walk_search.specs.declared.forest.Node.{Node}
-use Rattle.walk_search.proofs.closing.node_above.Goals as goal
+use Rattle.walk_search.proofs.closing.node_below_root.Goals as goal
 
 pub returns : goal.returns
 returns c =
