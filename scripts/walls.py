@@ -233,6 +233,9 @@ FLOOR = re.compile(r"^#+ (\d+)\. \S")
 HOUSE_CRATE = re.compile(r"^\| `(\w+)` \|")
 LISTED_CRATE = re.compile(r"^(\w+)(?: staticlib)?:")
 DEFINED = re.compile(r"^(?:(?:pub|abbrev|unfoldable|record|data) +)+([^\s:(){}]+)\s*(?:[({][^)}]*[)}]\s*)*:")
+# the head of definitions that name one another, and a line that begins one of these
+MUTUAL = re.compile(r"^(?:(?:abbrev|unfoldable) +)*mutual\b")
+DEFINED_IN_MUTUAL = re.compile(r"^  (?:(?:pub|record|data) +)*([^\s:(){}]+)\s*(?:[({][^)}]*[)}]\s*)*: ")
 
 
 def crates():
@@ -874,8 +877,11 @@ def upward_edges():
 def defined(crate):
     """Each name that a crate's definitions define, with where it stands."""
     for path in files(os.path.join("crates", crate, "specs"), ".antt"):
+        is_mutual = False
         for place, line in numbered(path):
-            found = DEFINED.match(line)
+            if line.strip() and not line.startswith((" ", "--")):
+                is_mutual = MUTUAL.match(line) is not None
+            found = DEFINED_IN_MUTUAL.match(line) if is_mutual else DEFINED.match(line)
             if found:
                 yield found[1], place
 

@@ -26,7 +26,8 @@ use step_count::{Blank, Brand, Ledger, Steps};
 /// Whether a tree whose leaves from left to right keep the rows has every valid order of the rows among its frontiers:
 /// the columns of each node stay together, and the children of each Q-node stand in line.
 ///
-/// Takes a logarithm of looks at the gaps for each column, on the average, and 52 bytes for each column.
+/// Takes a logarithm of looks at the gaps for each column, on the average, and 52 bytes for each column. No clause says
+/// so: what is proved of its looks stands at [`is_complete_counted`].
 ///
 /// # Errors
 ///

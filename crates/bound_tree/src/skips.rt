@@ -23,7 +23,8 @@ pub fn each_before(alloc: Global, columns: u32) -> Result<Vec<u32>, NoMemory>
 
 /// The greatest position up to `from` that the gap before the position `at` does not pass. The table has for each
 /// position one before it, with none but passed ones between them. It is made to lead farther on the way, so that calls
-/// for one gap after another look at a logarithm of positions each, on the average (Tarjan and van Leeuwen, 1984). No
+/// for one gap after another look at a logarithm of positions each, on the average (Tarjan and van Leeuwen, 1984), which
+/// no clause says. No
 /// call takes more than two looks for each position, and one more.
 pub fn nearest<L: Ledger>(
     before: &mut [u32],

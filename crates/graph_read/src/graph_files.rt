@@ -18,11 +18,12 @@ use std::alloc::Global;
 /// and then line for line from the first on. A line is judged by its words, then by their range, and the first line
 /// last by the limits.
 ///
-/// While it reads it keeps the edges in a list of four bytes each, whose room doubles as it grows: beside the graph up
-/// to eight bytes for each line, and up to twelve while the list moves to its new room. Where there are at most 256
-/// pairs of an x and a y for each edge in that list, and at most 2^25 in all, a table with a bit for each pair puts them
-/// in order, with at most 32 bytes for each line and 4 MiB. The time is linear then in the length of the file and the
-/// size of the left side, and also where the edges ascend, first by x and then by y. Else the edges are sorted, in place.
+/// While it reads it keeps the edges in a list of four bytes each. Room for it is asked for by the bytes at hand, one
+/// byte for each of them, and doubles where the list needs more: up to eight bytes for each line then, and up to twelve
+/// while the list moves to its new room. Where there are at most 256 pairs of an x and a y for each edge in that list,
+/// and at most 2^25 in all, a table with a bit for each pair puts them in order, with at most 32 bytes for each line and
+/// 4 MiB. The time is linear then in the length of the file and the size of the left side, and also where the edges
+/// ascend, first by x and then by y. Else the edges are sorted, in place.
 ///
 /// # Errors
 ///
@@ -44,10 +45,11 @@ pub fn read_bigraph(alloc: Global, bytes: &[u8], left_limit: u32) -> Result<Read
 /// and then line for line from the first on. A line is judged by its words, then by their range; the first line last by
 /// the limit, and a later one last as a loop.
 ///
-/// While it reads it keeps each edge both ways in a list of four bytes a way, whose room doubles as it grows: beside
-/// the graph up to sixteen bytes for each line, and up to 24 while the list moves to its new room. Where there are at
-/// most 256 pairs of vertices for each way in that list, a table with a bit for each pair, of at most 512 KiB, puts the
-/// list in order, and the time is linear. Else the list is sorted, in place.
+/// While it reads it keeps each edge both ways in a list of four bytes a way. Room for it is asked for by the bytes at
+/// hand, one byte for each of them, and doubles where the list needs more: up to sixteen bytes for each line then, and
+/// up to 24 while the list moves to its new room. Where there are at most 256 pairs of vertices for each way in that
+/// list, a table with a bit for each pair, of at most 512 KiB, puts the list in order, and the time is linear. Else the
+/// list is sorted, in place.
 ///
 /// # Errors
 ///

@@ -23,7 +23,7 @@ use text_lines::line_from;
 pub struct LinesRead {
     /// What the first line that is not blank gives.
     pub heading: Heading,
-    /// How many lines were read.
+    /// How many lines were read, unless there is a refusal.
     pub passed: u32,
     /// The edges, or the first refusal, once a line was not blank.
     pub edges: Option<Read<EdgePlaces>>,

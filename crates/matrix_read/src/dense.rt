@@ -24,7 +24,8 @@ use text_lines::line_from;
 /// judged by the number of rows before it, by its bytes, and by the number of its digits. Last comes a file without
 /// a row.
 ///
-/// The time is linear in the length of the file, and the memory is that of the matrix and of one row.
+/// The time is linear in the length of the file. The memory that is written is that of the matrix and of one row. Room
+/// is asked for by the bytes at hand: up to nine bytes for each of them.
 ///
 /// # Errors
 ///

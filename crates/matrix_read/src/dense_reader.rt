@@ -12,7 +12,8 @@ use text_lines::{unmarked_part, whole_len};
 
 /// The reader of [`read_dense`](crate::read_dense) over a text that comes in pieces.
 ///
-/// The memory is that of the matrix and of one row.
+/// The memory that is written is that of the matrix and of one row. Room is asked for by the bytes at hand: up to nine
+/// bytes for each of them.
 #[derive(Drop)]
 pub struct DenseReader {
     is_begun: bool,

@@ -16,7 +16,8 @@ use text_lines::{next_line, unmarked_part, whole_len};
 
 /// The reader of [`read_rows`](crate::read_rows) over a text of at most [`MAX_FILE_BYTES`] bytes that comes in pieces.
 ///
-/// The memory is that of the matrix and of one row.
+/// The memory that is written is that of the matrix and of one row. Room is asked for by the bytes at hand: up to three
+/// bytes for each of them.
 #[derive(Drop)]
 pub struct RowsReader {
     is_begun: bool,

@@ -34,7 +34,8 @@ use std::alloc::Global;
 /// and by its fields. The line of its refusal is its number among the records.
 ///
 /// The time is linear in the length of the file. Beside the matrix one record is kept at a time, whose fields take
-/// eight bytes each.
+/// eight bytes each. Room for the longest record is asked for at once: nine bytes for each byte of the file, of which
+/// only what a record fills is written.
 ///
 /// # Errors
 ///

@@ -8,8 +8,8 @@ use crate::sorted::{is_rising, sorted_columns};
 use row_model::{Line, NoMemory, Why};
 use std::alloc::Global;
 
-/// Whether no line but the last is a flip, and no two lines before that flip have the same two columns. It takes room
-/// for each line.
+/// `true` only where no line but the last is a flip, and no two lines before that flip have the same two columns. It
+/// takes room for each line.
 ///
 /// # Errors
 ///

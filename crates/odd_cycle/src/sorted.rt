@@ -7,7 +7,12 @@ use crate::pairs::lesser_first;
 use row_model::{Line, NoMemory, Pair};
 use std::alloc::Global;
 
-/// The columns of the lines, one pair for each line, with its lesser column first, in rising order.
+/// The columns of the lines, one pair for each line, with its lesser column first. It sorts them; the clause says only
+/// which they are.
+///
+/// # Errors
+///
+/// `NoMemory` where there is no memory for the list.
 pub fn sorted_columns(alloc: Global, lines: &[Line]) -> Result<Vec<Pair>, NoMemory>
     ensures { IfOk result (λ pairs. IsPermutation (map columns_of lines.now) pairs.items) }
 {
@@ -19,7 +24,7 @@ pub fn sorted_columns(alloc: Global, lines: &[Line]) -> Result<Vec<Pair>, NoMemo
     Ok(pairs)
 }
 
-/// Whether each pair is less than the next, so that none comes twice.
+/// `true` only where no pair comes twice: where each is less than the next.
 pub fn is_rising(pairs: &[Pair]) -> bool
     ensures { IsTrue result → AllPairs (λ earlier later. earlier ≢ later) pairs.now }
 {

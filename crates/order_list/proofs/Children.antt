@@ -9,7 +9,7 @@ use Rattle.order_list.specs.Reading.{CanBegin, tree_at}
 use Rattle.order_list.specs.Next.{IsLeastFrom, OneBegins, IsNextAmong, lower_of, nearer_of}
 use Rattle.order_list.specs.Coming.{outlines}
 use Rattle.order_list.specs.declared.search.Next.{Next}
-use Rattle.order_list.specs.Weights.{weight, weights}
+use Rattle.order_list.specs.Weights.{walk_weight, walk_weights}
 use Rattle.order_list.proofs.Readings.{arities_at}
 use Rattle.order_list.proofs.Taking.{reverse_arities}
 use Rattle.order_list.proofs.Begins.{outline_at, lent_at, next_more, least_more, least_p, least_q}
@@ -27,16 +27,16 @@ q_counts u ts e h =
 pub child_arities : (ts : List Tree) (i : ℕ) (t : Tree) → HaveArities (forest (map outline_of ts)) → i < length ts → t ≡ get_or ts i t → HasArities (outline_of t)
 child_arities ts i t h l e = subst HasArities (outline_at ts i t l e) (arities_at (map outline_of ts) i h (omega (arith, length-map ts outline_of, l)))
 
-pub weight_at : (ts : List Outline) (k : ℕ) → k < length ts → weight (tree_at ts k) ≤ weights (forest ts)
+pub weight_at : (ts : List Outline) (k : ℕ) → k < length ts → walk_weight (tree_at ts k) ≤ walk_weights (forest ts)
 weight_at [] k l = absurd (omega arith)
 weight_at (t ∷ ts) zero l = omega arith
 weight_at (t ∷ ts) (suc k) l = omega (arith, weight_at ts k (omega arith))
 
 -- a child weighs less than its node
-pub child_weight : (u : Outline) (ts : List Tree) (i : ℕ) (t : Tree) → weight u ≡ 2 + weights (forest (map outline_of ts)) → i < length ts → t ≡ get_or ts i t →
-    weight (outline_of t) < weight u
+pub child_weight : (u : Outline) (ts : List Tree) (i : ℕ) (t : Tree) → walk_weight u ≡ 2 + walk_weights (forest (map outline_of ts)) → i < length ts → t ≡ get_or ts i t →
+    walk_weight (outline_of t) < walk_weight u
 child_weight u ts i t w l e =
-    omega (arith, w, weight_at (map outline_of ts) i (omega (arith, length-map ts outline_of, l)), ap weight (outline_at ts i t l e))
+    omega (arith, w, weight_at (map outline_of ts) i (omega (arith, length-map ts outline_of, l)), ap walk_weight (outline_at ts i t l e))
 
 -- the last child of a Q-node
 pub record IsLastChild (ts : List Tree) (t : Tree) : Type 0 where

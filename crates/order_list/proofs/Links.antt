@@ -4,7 +4,7 @@ use Rattle.pq_tree.specs.Outline.{p_node}
 use Rattle.pq_tree.specs.Proper.{outline_of, forest}
 use Rattle.pq_tree.specs.declared.Tree.{Tree}
 use Rattle.order_list.specs.Coming.{outlines, coming_trees, trees_within}
-use Rattle.order_list.specs.Weights.{weights, weight_within}
+use Rattle.order_list.specs.Weights.{walk_weights, weight_within}
 use Rattle.order_list.specs.declared.walk.Bag.{Bag}
 use Rattle.order_list.specs.declared.walk.Coming.{Coming, Nothing, InAnyOrder, Forwards, Backwards, the_lemmas}
 
@@ -21,7 +21,7 @@ module _ (bag : Bag) (rest : Bor Coming) where
   pub within-InAnyOrder : trees_within (InAnyOrder bag rest) ≡ outlines bag.trees.now ++ trees_within rest.now
   within-InAnyOrder = search (rules, the_lemmas)
 
-  pub weight-InAnyOrder : weight_within (InAnyOrder bag rest) ≡ 1 + (weights (forest (outlines bag.trees.now)) + weight_within rest.now)
+  pub weight-InAnyOrder : weight_within (InAnyOrder bag rest) ≡ 1 + (walk_weights (forest (outlines bag.trees.now)) + weight_within rest.now)
   weight-InAnyOrder = search (rules, the_lemmas)
 
 module _ (trees : Bor (List Tree)) (rest : Bor Coming) where
@@ -31,7 +31,7 @@ module _ (trees : Bor (List Tree)) (rest : Bor Coming) where
   pub within-Forwards : trees_within (Forwards trees rest) ≡ map outline_of trees.now ++ trees_within rest.now
   within-Forwards = search (rules, the_lemmas)
 
-  pub weight-Forwards : weight_within (Forwards trees rest) ≡ 1 + (weights (forest (map outline_of trees.now)) + weight_within rest.now)
+  pub weight-Forwards : weight_within (Forwards trees rest) ≡ 1 + (walk_weights (forest (map outline_of trees.now)) + weight_within rest.now)
   weight-Forwards = search (rules, the_lemmas)
 
   pub trees-Backwards : coming_trees (Backwards trees rest) ≡ reverse (map outline_of trees.now) ++ coming_trees rest.now
@@ -40,5 +40,5 @@ module _ (trees : Bor (List Tree)) (rest : Bor Coming) where
   pub within-Backwards : trees_within (Backwards trees rest) ≡ reverse (map outline_of trees.now) ++ trees_within rest.now
   within-Backwards = search (rules, the_lemmas)
 
-  pub weight-Backwards : weight_within (Backwards trees rest) ≡ 1 + (weights (forest (map outline_of trees.now)) + weight_within rest.now)
+  pub weight-Backwards : weight_within (Backwards trees rest) ≡ 1 + (walk_weights (forest (map outline_of trees.now)) + weight_within rest.now)
   weight-Backwards = search (rules, the_lemmas)

@@ -11,7 +11,7 @@ use Rattle.order_list.specs.Listed.{OrderList}
 use Rattle.order_list.specs.Reading.{Reads, CanBegin, tree_at}
 use Rattle.order_list.specs.Low.{StandsLow, StandLow}
 use Rattle.order_list.specs.Ways.{Leads}
-use Rattle.order_list.specs.Weights.{weight, weights, weight_within}
+use Rattle.order_list.specs.Weights.{walk_weight, walk_weights, weight_within}
 use Rattle.order_list.specs.declared.walk.Bag.{Bag}
 use Rattle.order_list.specs.declared.walk.Coming.{Coming, InAnyOrder, Forwards, Backwards}
 use Rattle.order_list.proofs.Begins.{outline_at, lent_at}
@@ -23,7 +23,7 @@ use Rattle.order_list.proofs.Links.{trees-InAnyOrder, within-InAnyOrder, weight-
 use Rattle.order_list.proofs.Steps.{SameSet, outlines_remove, ready_moved, same_taken, same_q, same_q_turned, first_child, last_child, weights_taken, weights_reverse}
 use Rattle.order_list.proofs.Taking.{sound_left, sound_p, sound_q, sound_turned, sound_taken as sound_of_taken, sound_same}
 
-two : (u : Outline) → 2 ≤ weight u
+two : (u : Outline) → 2 ≤ walk_weight u
 two (leaf a) = omega arith
 two (p_node ts) = omega arith
 two (q_node ts) = omega arith
@@ -31,7 +31,7 @@ two (q_node ts) = omega arith
 -- what the walk needs to go on with the tree u, to which the way ks leads, before the link
 abbrev pub GoesOn : Outline → List ℕ → ℕ → Coming → ℕ → List ℕ → ℕ → OrderList → Type 0
 GoesOn u ks x after m columns limit found =
-    (8 * (weight u + weight_within after) - 12 < m) × (Leads ks u x × (AreTrees (forest (u ∷ trees_within after)) × (StandLow (forest (u ∷ coming_trees after))
+    (8 * (walk_weight u + weight_within after) - 12 < m) × (Leads ks u x × (AreTrees (forest (u ∷ trees_within after)) × (StandLow (forest (u ∷ coming_trees after))
     × IsReady (from_column x (Reads (u ∷ coming_trees after))) columns limit found)))
 
 -- a tree u taken from the place k of a bag, and the others: a way down to it begins with the column x
@@ -43,10 +43,10 @@ pub record IsOpened (ts : List Outline) (k x : ℕ) (ks : List ℕ) (u : Outline
   pub leads : Leads ks u x
 
 module _ (ts : List Outline) (k x : ℕ) (ks : List ℕ) (u : Outline) (bag : Bag) (rest : Bor Coming) (s : IsOpened ts k x ks u (outlines bag.trees.now)) where
-  taken_falls : (m : ℕ) → m ≡ 8 * (weights (forest ts) + weight_within rest.now) → 8 * (weight u + weight_within (InAnyOrder bag rest)) - 12 < m
+  taken_falls : (m : ℕ) → m ≡ 8 * (walk_weights (forest ts) + weight_within rest.now) → 8 * (walk_weight u + weight_within (InAnyOrder bag rest)) - 12 < m
   taken_falls m same =
-      let weighs : weight u + weight_within (InAnyOrder bag rest) ≡ 1 + (weights (forest ts) + weight_within rest.now) =
-      omega (arith, ap weight s.at, weights_taken ts k s.inside, weight-InAnyOrder bag rest, ap (λ us. weights (forest us)) s.others) in
+      let weighs : walk_weight u + weight_within (InAnyOrder bag rest) ≡ 1 + (walk_weights (forest ts) + weight_within rest.now) =
+      omega (arith, ap walk_weight s.at, weights_taken ts k s.inside, weight-InAnyOrder bag rest, ap (λ us. walk_weights (forest us)) s.others) in
       omega (arith, weighs, weights_taken ts k s.inside, two (tree_at ts k))
 
   taken_sound : AreTrees (forest (ts ++ trees_within rest.now)) → AreTrees (forest (u ∷ trees_within (InAnyOrder bag rest)))
@@ -68,7 +68,7 @@ module _ (ts : List Outline) (k x : ℕ) (ks : List ℕ) (u : Outline) (bag : Ba
       (low_at ts k low.0.1 s.inside, (low_removed ts k s.inside low.0, low.1))
 
   -- the walk goes on with the tree
-  pub taken_goes_on : (m : ℕ) → m ≡ 8 * (weights (forest ts) + weight_within rest.now) → AreTrees (forest (ts ++ trees_within rest.now)) → StandLow (forest (p_node (forest ts) ∷ coming_trees rest.now)) →
+  pub taken_goes_on : (m : ℕ) → m ≡ 8 * (walk_weights (forest ts) + weight_within rest.now) → AreTrees (forest (ts ++ trees_within rest.now)) → StandLow (forest (p_node (forest ts) ∷ coming_trees rest.now)) →
       (columns : List ℕ) (limit : ℕ) (found : OrderList) → IsReady (from_column x (Reads (p_node (forest ts) ∷ coming_trees rest.now))) columns limit found →
       GoesOn u ks x (InAnyOrder bag rest) m columns limit found
   taken_goes_on m same sound low columns limit found ready =
@@ -156,11 +156,11 @@ module _ (u : Outline) (ts : List Tree) (rest : Bor Coming) (x : ℕ) (e : u ≡
     forward_split : map outline_of ts ≡ outline_of t ∷ map outline_of part.now
     forward_split = first_child ts t (omega (arith, many)) at ∙ ap (λ us. outline_of t ∷ map outline_of us) (sym cut)
 
-    forward_weight : weight (outline_of t) + weight_within (Forwards part rest) + 1 ≡ weight u + weight_within rest.now
-    forward_weight = omega (arith, ap weight e, ap (λ us. weights (forest us)) forward_split, weight-Forwards part rest)
+    forward_weight : walk_weight (outline_of t) + weight_within (Forwards part rest) + 1 ≡ walk_weight u + weight_within rest.now
+    forward_weight = omega (arith, ap walk_weight e, ap (λ us. walk_weights (forest us)) forward_split, weight-Forwards part rest)
 
-    forward_falls : (m : ℕ) → m ≡ 8 * (weight u + weight_within rest.now) - 12 → 8 * (weight (outline_of t) + weight_within (Forwards part rest)) - 12 < m
-    forward_falls m is = omega (arith, forward_weight, ap weight e)
+    forward_falls : (m : ℕ) → m ≡ 8 * (walk_weight u + weight_within rest.now) - 12 → 8 * (walk_weight (outline_of t) + weight_within (Forwards part rest)) - 12 < m
+    forward_falls m is = omega (arith, forward_weight, ap walk_weight e)
 
     forward_sound : AreTrees (forest (outline_of t ∷ trees_within (Forwards part rest)))
     forward_sound =
@@ -178,7 +178,7 @@ module _ (u : Outline) (ts : List Tree) (rest : Bor Coming) (x : ℕ) (e : u ≡
         same_q u (outline_of t) (map outline_of ts) (map outline_of part.now) (coming_trees rest.now) (coming_trees (Forwards part rest)) x e forward_split (trees-Forwards part rest) children_sound
         (omega (arith, many, length-map ts outline_of, ap (λ (us : List Outline). length us) forward_split)) b
 
-    pub forward_goes_on : (ks : List ℕ) → Leads ks (outline_of t) x → (m : ℕ) → m ≡ 8 * (weight u + weight_within rest.now) - 12 → StandLow (forest (u ∷ coming_trees rest.now)) →
+    pub forward_goes_on : (ks : List ℕ) → Leads ks (outline_of t) x → (m : ℕ) → m ≡ 8 * (walk_weight u + weight_within rest.now) - 12 → StandLow (forest (u ∷ coming_trees rest.now)) →
         (columns : List ℕ) (limit : ℕ) (found : OrderList) → IsReady (from_column x (Reads (u ∷ coming_trees rest.now))) columns limit found →
         GoesOn (outline_of t) ks x (Forwards part rest) m columns limit found
     forward_goes_on ks way m is low columns limit found ready =
@@ -188,19 +188,19 @@ module _ (u : Outline) (ts : List Tree) (rest : Bor Coming) (x : ℕ) (e : u ≡
     backward_split : reverse (map outline_of ts) ≡ outline_of t ∷ reverse (map outline_of part.now)
     backward_split = last_child ts t (omega (arith, many)) at ∙ ap (λ us. outline_of t ∷ reverse (map outline_of us)) (sym cut)
 
-    backward_weight : weight (outline_of t) + weight_within (Backwards part rest) + 1 ≡ weight u + weight_within rest.now
+    backward_weight : walk_weight (outline_of t) + weight_within (Backwards part rest) + 1 ≡ walk_weight u + weight_within rest.now
     backward_weight =
         omega (
           arith,
-          ap weight e,
-          ap (λ us. weights (forest us)) backward_split,
+          ap walk_weight e,
+          ap (λ us. walk_weights (forest us)) backward_split,
           weights_reverse (map outline_of ts),
           weights_reverse (map outline_of part.now),
           weight-Backwards part rest,
         )
 
-    backward_falls : (m : ℕ) → m ≡ 8 * (weight u + weight_within rest.now) - 12 → 8 * (weight (outline_of t) + weight_within (Backwards part rest)) - 12 < m
-    backward_falls m is = omega (arith, backward_weight, ap weight e)
+    backward_falls : (m : ℕ) → m ≡ 8 * (walk_weight u + weight_within rest.now) - 12 → 8 * (walk_weight (outline_of t) + weight_within (Backwards part rest)) - 12 < m
+    backward_falls m is = omega (arith, backward_weight, ap walk_weight e)
 
     backward_sound : AreTrees (forest (outline_of t ∷ trees_within (Backwards part rest)))
     backward_sound =
@@ -219,7 +219,7 @@ module _ (u : Outline) (ts : List Tree) (rest : Bor Coming) (x : ℕ) (e : u ≡
         same_q_turned u (outline_of t) (map outline_of ts) (reverse (map outline_of part.now)) (coming_trees rest.now) (coming_trees (Backwards part rest)) x e backward_split (trees-Backwards part rest)
         children_sound (omega (arith, many, length-map ts outline_of, length-reverse {A = Outline}, ap (λ (us : List Outline). length us) backward_split)) b
 
-    pub backward_goes_on : (ks : List ℕ) → Leads ks (outline_of t) x → (m : ℕ) → m ≡ 8 * (weight u + weight_within rest.now) - 12 → StandLow (forest (u ∷ coming_trees rest.now)) →
+    pub backward_goes_on : (ks : List ℕ) → Leads ks (outline_of t) x → (m : ℕ) → m ≡ 8 * (walk_weight u + weight_within rest.now) - 12 → StandLow (forest (u ∷ coming_trees rest.now)) →
         (columns : List ℕ) (limit : ℕ) (found : OrderList) → IsReady (from_column x (Reads (u ∷ coming_trees rest.now))) columns limit found →
         GoesOn (outline_of t) ks x (Backwards part rest) m columns limit found
     backward_goes_on ks way m is low columns limit found ready =
@@ -229,7 +229,7 @@ module _ (u : Outline) (ts : List Tree) (rest : Bor Coming) (x : ℕ) (e : u ≡
 pub record IsLink (coming : Coming) (u : Outline) (after : Coming) : Type 0 where
   pub trees : coming_trees coming ≡ u ∷ coming_trees after
   pub within : trees_within coming ≡ u ∷ trees_within after
-  pub weighs : weight_within coming ≡ weight u + weight_within after
+  pub weighs : weight_within coming ≡ walk_weight u + weight_within after
 
 -- a link, read from its first tree on
 pub first_link : (coming : Coming) (trees : Bor (List Tree)) (rest : Bor Coming) (tree : Tree) (others : Bor (List Tree)) → coming ≡ Forwards trees rest → IsFirstAndRest trees.now tree others.now →
@@ -242,7 +242,7 @@ first_link coming trees rest tree others e first =
       within =
           ap trees_within e ∙ within-Forwards trees rest ∙ ap (λ ts. map outline_of ts ++ trees_within rest.now) first.0 ∙
           ap (λ us. outline_of tree ∷ us) (sym (within-Forwards others rest));
-      weighs = omega (arith, ap weight_within e, weight-Forwards trees rest, ap (λ ts. weights (forest (map outline_of ts))) first.0, weight-Forwards others rest);
+      weighs = omega (arith, ap weight_within e, weight-Forwards trees rest, ap (λ ts. walk_weights (forest (map outline_of ts))) first.0, weight-Forwards others rest);
     }
 
 -- and from its last one
@@ -259,7 +259,7 @@ last_link coming trees rest tree others e last =
             arith,
             ap weight_within e,
             weight-Backwards trees rest,
-            ap (λ us. weights (forest us)) turned,
+            ap (λ us. walk_weights (forest us)) turned,
             weights_reverse (map outline_of trees.now),
             weights_reverse (map outline_of others.now),
             weight-Backwards others rest,
@@ -280,8 +280,8 @@ module _ (coming : Coming) (bag : Bag) (rest : Bor Coming) (u : Outline) (e : co
   pub one_within : trees_within coming ≡ u ∷ trees_within rest.now
   one_within = ap trees_within e ∙ within-InAnyOrder bag rest ∙ ap (λ us. us ++ trees_within rest.now) one
 
-  pub one_weight : weight_within coming ≡ 1 + (weight u + weight_within rest.now)
-  one_weight = omega (arith, ap weight_within e, weight-InAnyOrder bag rest, ap (λ us. weights (forest us)) one)
+  pub one_weight : weight_within coming ≡ 1 + (walk_weight u + weight_within rest.now)
+  one_weight = omega (arith, ap weight_within e, weight-InAnyOrder bag rest, ap (λ us. walk_weights (forest us)) one)
 
 pub none_trees : (coming : Coming) (bag : Bag) (rest : Bor Coming) → coming ≡ InAnyOrder bag rest → length bag.trees.now ≡ 0 → coming_trees coming ≡ p_node no_tree ∷ coming_trees rest.now
 none_trees coming bag rest e n =

@@ -13,7 +13,7 @@ use Rattle.order_list.specs.Listed.{OrderList}
 use Rattle.order_list.specs.Next.{OneBegins, IsNextAmong}
 use Rattle.order_list.specs.declared.search.Next.{Next}
 use Rattle.order_list.specs.Reading.{Reads, CanBegin, tree_at}
-use Rattle.order_list.specs.Weights.{weight, weights}
+use Rattle.order_list.specs.Weights.{walk_weight, walk_weights}
 use Rattle.order_list.proofs.Begins.{outline_at, reverse_last, p_some, p_reads}
 use Rattle.order_list.proofs.Gaining.{BeginsBelow, Below, gains_same, ready_same, gains_more, gains_all, gains_stopped}
 use Rattle.order_list.proofs.Taking.{p_taken, p_untaken, none_taken, none_untaken, one_taken, one_untaken, leaf_taken, leaf_untaken, q_taken, q_untaken, q_turned_taken, q_turned_untaken}
@@ -114,19 +114,19 @@ last_child ts t n e =
     ap (λ vs. outline_of t ∷ reverse vs) (sym (map-take outline_of (length ts - 1) ts))
 
 -- the weights of trees: of one and the others, and backwards
-pub weights_taken : (ts : List Outline) (k : ℕ) → k < length ts → weights (forest ts) ≡ weight (tree_at ts k) + weights (forest (remove ts k))
+pub weights_taken : (ts : List Outline) (k : ℕ) → k < length ts → walk_weights (forest ts) ≡ walk_weight (tree_at ts k) + walk_weights (forest (remove ts k))
 weights_taken [] k l = absurd (omega arith)
 weights_taken (t ∷ ts) zero l = refl
 weights_taken (t ∷ ts) (suc k) l = omega (arith, weights_taken ts k (omega arith))
 
-pub weights_append : (ts us : List Outline) → weights (forest (ts ++ us)) ≡ weights (forest ts) + weights (forest us)
+pub weights_append : (ts us : List Outline) → walk_weights (forest (ts ++ us)) ≡ walk_weights (forest ts) + walk_weights (forest us)
 weights_append [] us = omega arith
 weights_append (t ∷ ts) us = omega (arith, weights_append ts us)
 
-pub weights_reverse : (ts : List Outline) → weights (forest (reverse ts)) ≡ weights (forest ts)
+pub weights_reverse : (ts : List Outline) → walk_weights (forest (reverse ts)) ≡ walk_weights (forest ts)
 weights_reverse [] = refl
 weights_reverse (t ∷ ts) =
-    omega (arith, ap (λ us. weights (forest us)) (reverse-append (t ∷ []) ts), weights_append (reverse ts) (t ∷ []), weights_reverse ts)
+    omega (arith, ap (λ us. walk_weights (forest us)) (reverse-append (t ∷ []) ts), weights_append (reverse ts) (t ∷ []), weights_reverse ts)
 
 -- the loop over the columns that can come next
 module _ (ts us : List Outline) (columns : List ℕ) (limit from : ℕ) (a b : OrderList) (n : ℕ) (some : 1 ≤ n) (all : n ≡ length ts) (sound : AreTrees (forest ts)) where

@@ -8,21 +8,21 @@ use Rattle.order_list.specs.declared.walk.Coming.TheOpen.{Coming-F}
 
 -- twice the number of nodes, leaves included
 abbrev mutual
-  pub weight : Outline → ℕ
-  weight (leaf a) = 2
-  weight (p_node ts) = 2 + weights ts
-  weight (q_node ts) = 2 + weights ts
+  pub walk_weight : Outline → ℕ
+  walk_weight (leaf a) = 2
+  walk_weight (p_node ts) = 2 + walk_weights ts
+  walk_weight (q_node ts) = 2 + walk_weights ts
 
   -- the same of some trees
-  pub weights : Forest → ℕ
-  weights no_tree = 0
-  weights (tree_and t ts) = weight t + weights ts
+  pub walk_weights : Forest → ℕ
+  walk_weights no_tree = 0
+  walk_weights (tree_and t ts) = walk_weight t + walk_weights ts
 
 abbrev pub weight_step : Coming-F ℕ → ℕ
 weight_step Coming-F.Nothing = 0
-weight_step (Coming-F.InAnyOrder bag rest) = 1 + (weights (forest (outlines bag.trees.now)) + rest.now)
-weight_step (Coming-F.Forwards trees rest) = 1 + (weights (forest (map outline_of trees.now)) + rest.now)
-weight_step (Coming-F.Backwards trees rest) = 1 + (weights (forest (map outline_of trees.now)) + rest.now)
+weight_step (Coming-F.InAnyOrder bag rest) = 1 + (walk_weights (forest (outlines bag.trees.now)) + rest.now)
+weight_step (Coming-F.Forwards trees rest) = 1 + (walk_weights (forest (map outline_of trees.now)) + rest.now)
+weight_step (Coming-F.Backwards trees rest) = 1 + (walk_weights (forest (map outline_of trees.now)) + rest.now)
 
 -- the weight of all trees that come, and one for each link
 abbrev pub weight_within : Coming → ℕ

@@ -18,7 +18,7 @@ pub struct Others {
 impl Others {
     /// For the rows of these numbers, which ascend, the first of which is to have this order.
     ///
-    /// It takes a look at each one of the rows, and where the rows are many a look at each two columns.
+    /// It takes a look at each one of the rows, and where the rows are many a look at each two columns. No clause says so.
     ///
     /// # Errors
     ///

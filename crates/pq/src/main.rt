@@ -53,7 +53,7 @@ fn main(rt: HostRuntime) -> ExitCode {
     let mut err = RealSink::error(rt.stderr());
     let words = match words_of(&rt) {
         Ok(words) => words,
-        // No words are outside the grammar, and so are these.
+        // An empty list of words is outside the grammar, as these are.
         Err(Unread::NotText) => Vec::new(alloc),
         Err(Unread::NoMemory) => {
             let _ = write_all(&mut err, b"pq: no memory\n");

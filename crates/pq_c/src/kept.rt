@@ -5,7 +5,7 @@ use pq_io::{Failed, NoMemory, Sink};
 use std::alloc::Global;
 use std::marker::Model;
 
-/// A sink that keeps all bytes. A write fails only where memory is refused.
+/// A sink that keeps all bytes. A write fails where memory is refused.
 #[derive(Drop)]
 pub struct Kept {
     bytes: Vec<u8>,

@@ -6,9 +6,8 @@
 //!
 //! Each command is a case of `perform` (`command`). Most go over the file of an instance, and some over that of a text
 //! too, which is judged (`over`); `extend` and `meet` take their files themselves, and `gen` has none. A crate below
-//! makes the reply of what was read. How a file is read by the form that it should have is in `input`, what may stand in
-//! the way in `stop`, and the frame of a command that ran is one record. The words are read by `commands`, and
-//! `reply_laws` says what the replies mean.
+//! makes the reply of what was read. How a file is read by the form that it should have is in `input`, and what may stand
+//! in the way in `stop`. The words are read by `command_input`, and `reply_laws` says what the replies mean.
 #![tactic(auto)]
 
 ghost use Rattle.std.specs.Prelude.{◌≡◌};

@@ -43,7 +43,7 @@ use step_count::{Blank, Brand, Ledger, Steps};
 /// | Status | Meaning |
 /// |---|---|
 /// | 0 | `solve`: the instance has a textbook order of its kind, on each side; `check`: the verdict is valid; `extend` and `list`: the matrix has a valid order; `core`: it has none; `check-core`: the core is valid; `unit`: the graph has a unit model; `check-unit`: the model is valid; `meet`: the trees share an order; `gen`: done |
-/// | 1 | `solve`: it has none, on one side at least; `check`: the verdict is invalid; `extend` and `list`: the matrix has no valid order; `core`: it has one; `check-core`: the core is invalid; `unit`: the graph has no unit model; `check-unit`: the model is invalid; `meet`: the trees share no order |
+/// | 1 | `solve`: the instance has no textbook order of its kind, on one side at least; `check`: the verdict is invalid; `extend` and `list`: the matrix has no valid order; `core`: it has one; `check-core`: the core is invalid; `unit`: the graph has no unit model; `check-unit`: the model is invalid; `meet`: the trees share no order |
 /// | 2 | the words are outside the grammar; nothing is read, and nothing is written to `out` |
 /// | 3 | the file of the instance, of further rows or of a tree is refused |
 /// | 4 | a file can't be read |

@@ -33,9 +33,9 @@ pub enum Cored {
 /// The odd cycle that is told has at most one flip, and with c columns at most c(c - 1)/2 + 1 lines, whatever cycles the
 /// judge has.
 ///
-/// Where it answers, a judge that goes through the rows in turn was asked once at most if there is a valid order, and else
-/// at most twice for each row of the core and once more. Any other judge was asked at most (n + 1)(2n + 1) + 1 times, n
-/// being the number of rows. Where a judge that goes through the rows in turn tells its costs, and no larger matrix costs
+/// Where it answers, and by the judge's own count, a judge that goes through the rows in turn was asked once at most if
+/// there is a valid order, and else at most twice for each row of the core and once more. Any other judge was asked at
+/// most (n + 1)(2n + 1) + 1 times, n being the number of rows. Where a judge that goes through the rows in turn tells its costs, and no larger matrix costs
 /// more, an answer takes at most the steps of as many judgements of this matrix. Where memory is refused, it takes at most
 /// those of 2n + 1.
 ///

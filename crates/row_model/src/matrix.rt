@@ -54,8 +54,8 @@ impl Matrix {
         })
     }
 
-    /// A matrix of so many columns, with no row. About so many rows and ones are expected: the answers are the same
-    /// with any numbers, and so is what may be added.
+    /// A matrix of so many columns, with no row. About so many rows and ones are expected: where there is memory, the
+    /// answers are the same with any numbers, and so is what may be added.
     ///
     /// # Errors
     ///

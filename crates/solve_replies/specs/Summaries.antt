@@ -10,14 +10,14 @@ use Rattle.solve_replies.specs.Generated.{generated}
 
 -- the sum over the nodes of a tree that are no leaves, where a P-node counts p and a Q-node counts q
 abbrev mutual
-  pub weight : ℕ → ℕ → Outline → ℕ
-  weight p q (leaf a) = 0
-  weight p q (p_node ts) = p + weight_of p q ts
-  weight p q (q_node ts) = q + weight_of p q ts
+  pub inner_sum : ℕ → ℕ → Outline → ℕ
+  inner_sum p q (leaf a) = 0
+  inner_sum p q (p_node ts) = p + inner_sum_of p q ts
+  inner_sum p q (q_node ts) = q + inner_sum_of p q ts
 
-  pub weight_of : ℕ → ℕ → Forest → ℕ
-  weight_of p q no_tree = 0
-  weight_of p q (tree_and t ts) = weight p q t + weight_of p q ts
+  pub inner_sum_of : ℕ → ℕ → Forest → ℕ
+  inner_sum_of p q no_tree = 0
+  inner_sum_of p q (tree_and t ts) = inner_sum p q t + inner_sum_of p q ts
 
 -- the canonical tree of all valid orders of a matrix
 pub record IsTreeOf (m : RowList) (t : Outline) : Type 0 where
@@ -29,7 +29,7 @@ pub record IsTreeOf (m : RowList) (t : Outline) : Type 0 where
 abbrev pub summary_text : RowList → Outline → List ℕ
 summary_text m t =
     codes "pq-gen 1\ncolumns " ++ (decimal m.columns ++ (codes "\nrows " ++ (decimal (length m.rows) ++ (codes "\nones " ++ (decimal (sum_by length m.rows) ++
-    (codes "\nanswer yes\np " ++ (decimal (weight 1 0 t) ++ (codes "\nq " ++ (decimal (weight 0 1 t) ++ codes "\nend\n")))))))))
+    (codes "\nanswer yes\np " ++ (decimal (inner_sum 1 0 t) ++ (codes "\nq " ++ (decimal (inner_sum 0 1 t) ++ codes "\nend\n")))))))))
 
 -- the text is the summary of the matrix that a number draws
 pub record IsSummary (seed c rows : ℕ) (text : List ℕ) : Type 0 where

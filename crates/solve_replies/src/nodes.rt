@@ -1,7 +1,7 @@
 // The nodes of a tree, by their kinds.
 ghost use Rattle.std.specs.Prelude.{◌≡◌, ◌+◌, ◌<◌, ◌^◌, map};
 ghost use Rattle.pq_tree.specs.Proper.{outline_of, forest};
-ghost use Rattle.solve_replies.specs.Summaries.{weight, weight_of};
+ghost use Rattle.solve_replies.specs.Summaries.{inner_sum, inner_sum_of};
 
 use pq_tree::Tree;
 
@@ -17,10 +17,10 @@ pub struct Nodes {
 /// Adds the nodes of a tree.
 #[cycle(nodes)]
 pub fn count_nodes(tree: &Tree, nodes: &mut Nodes)
-    requires p { nodes.old.p + weight 1 0 (outline_of tree.now) < 2 ^ 32 }
-    requires q { nodes.old.q + weight 0 1 (outline_of tree.now) < 2 ^ 32 }
-    ensures p { nodes.new.p ≡ nodes.old.p + weight 1 0 (outline_of tree.now) }
-    ensures q { nodes.new.q ≡ nodes.old.q + weight 0 1 (outline_of tree.now) }
+    requires p { nodes.old.p + inner_sum 1 0 (outline_of tree.now) < 2 ^ 32 }
+    requires q { nodes.old.q + inner_sum 0 1 (outline_of tree.now) < 2 ^ 32 }
+    ensures p { nodes.new.p ≡ nodes.old.p + inner_sum 1 0 (outline_of tree.now) }
+    ensures q { nodes.new.q ≡ nodes.old.q + inner_sum 0 1 (outline_of tree.now) }
 {
     match tree {
         Tree::Leaf(_) => {}
@@ -38,10 +38,10 @@ pub fn count_nodes(tree: &Tree, nodes: &mut Nodes)
 /// Adds the nodes of trees.
 #[cycle(nodes)]
 fn count_all(trees: &[Tree], nodes: &mut Nodes)
-    requires p { nodes.old.p + weight_of 1 0 (forest (map outline_of trees.now)) < 2 ^ 32 }
-    requires q { nodes.old.q + weight_of 0 1 (forest (map outline_of trees.now)) < 2 ^ 32 }
-    ensures p { nodes.new.p ≡ nodes.old.p + weight_of 1 0 (forest (map outline_of trees.now)) }
-    ensures q { nodes.new.q ≡ nodes.old.q + weight_of 0 1 (forest (map outline_of trees.now)) }
+    requires p { nodes.old.p + inner_sum_of 1 0 (forest (map outline_of trees.now)) < 2 ^ 32 }
+    requires q { nodes.old.q + inner_sum_of 0 1 (forest (map outline_of trees.now)) < 2 ^ 32 }
+    ensures p { nodes.new.p ≡ nodes.old.p + inner_sum_of 1 0 (forest (map outline_of trees.now)) }
+    ensures q { nodes.new.q ≡ nodes.old.q + inner_sum_of 0 1 (forest (map outline_of trees.now)) }
 {
     for tree in trees {
         count_nodes(tree, nodes);

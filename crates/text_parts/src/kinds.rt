@@ -22,7 +22,7 @@ const KINDS: [Kind; 9] = [
     Kind::Clones,
 ];
 
-// The word of a kind.
+/// The word of a kind.
 pub fn word_of(kind: Kind) -> &'static [u8]
     ensures { result.now ≡ kind_word kind }
 {
@@ -39,6 +39,11 @@ pub fn word_of(kind: Kind) -> &'static [u8]
     }
 }
 
+/// Reads the word of a kind at the front of the bytes.
+///
+/// # Errors
+///
+/// [`Stop::Outside`] where no kind's word stands there.
 #[tactic(auto, unfolding(crate::specs::Reading::kind_at))]
 pub fn read_kind(bytes: &[u8]) -> Result<(Kind, &[u8]), Stop>
     ensures { Gives with_rest result (kind_at bytes.now) }

@@ -14,6 +14,11 @@ use plain_text::{after_word, number, push_number};
 use row_model::{MAX_COLUMNS, NoMemory};
 use std::alloc::Global;
 
+/// Puts bytes at the end of a text.
+///
+/// # Errors
+///
+/// `NoMemory` where there is no memory for them; the text is as before then.
 pub fn push(text: &mut Vec<u8>, bytes: &[u8]) -> Result<(), NoMemory>
     ensures ok { OnOk result (text.new.items ≡ text.old.items ++ bytes.now) }
     ensures err { OnErr result (text.new.items ≡ text.old.items) }
@@ -21,7 +26,11 @@ pub fn push(text: &mut Vec<u8>, bytes: &[u8]) -> Result<(), NoMemory>
     text.extend_from_slice(bytes)
 }
 
-// A number after a space.
+/// Puts a space and a number at the end of a text.
+///
+/// # Errors
+///
+/// `NoMemory`. A part of them may have been put there.
 pub fn push_word(n: u64, text: &mut Vec<u8>) -> Result<(), NoMemory>
     ensures ok { OnOk result (text.new.items ≡ text.old.items ++ number_word n) }
     ensures err { OnErr result (Extends text.old.items text.new.items) }
@@ -31,6 +40,11 @@ pub fn push_word(n: u64, text: &mut Vec<u8>) -> Result<(), NoMemory>
     Ok(())
 }
 
+/// Puts each number after a space at the end of a text.
+///
+/// # Errors
+///
+/// `NoMemory`. A part of them may have been put there.
 pub fn push_words(numbers: &[u32], text: &mut Vec<u8>) -> Result<(), NoMemory>
     ensures ok { OnOk result (text.new.items ≡ text.old.items ++ flat_map number_word numbers.now) }
     ensures err { OnErr result (Extends text.old.items text.new.items) }
@@ -41,7 +55,11 @@ pub fn push_words(numbers: &[u32], text: &mut Vec<u8>) -> Result<(), NoMemory>
     Ok(())
 }
 
-// The bytes after a word.
+/// The bytes after a word at their front.
+///
+/// # Errors
+///
+/// [`Stop::Outside`] where they begin otherwise.
 pub fn after<'a>(bytes: &'a [u8], word: &[u8]) -> Result<&'a [u8], Stop>
     ensures { Gives rest_of result (word_at word.now bytes.now) }
 {
@@ -51,7 +69,11 @@ pub fn after<'a>(bytes: &'a [u8], word: &[u8]) -> Result<&'a [u8], Stop>
     }
 }
 
-// A count, a column, a row or a position.
+/// Reads a count, a column, a row or a position at the front of the bytes.
+///
+/// # Errors
+///
+/// [`Stop::Outside`] where no number below 2^32 without leading zeros stands there.
 pub fn read_number(bytes: &[u8]) -> Result<(u32, &[u8]), Stop>
     ensures { Gives with_rest result (number_at max_number bytes.now) }
 {
@@ -61,7 +83,11 @@ pub fn read_number(bytes: &[u8]) -> Result<(u32, &[u8]), Stop>
     }
 }
 
-// A number of columns, after a space.
+/// Reads a number of columns, from 1 to [`MAX_COLUMNS`], after a space at the front of the bytes.
+///
+/// # Errors
+///
+/// [`Stop::Outside`] where none stands there.
 #[tactic(auto, unfolding(crate::specs::Reading::column_count_at))]
 pub fn read_column_count(bytes: &[u8]) -> Result<(u32, &[u8]), Stop>
     ensures value { Gives with_rest result (column_count_at bytes.now) }
@@ -79,7 +105,11 @@ pub fn read_column_count(bytes: &[u8]) -> Result<(u32, &[u8]), Stop>
     }
 }
 
-// The numbers at the front, each after a space.
+/// Reads the numbers at the front of the bytes, each after a space.
+///
+/// # Errors
+///
+/// [`Stop::Outside`] where a space is followed by no number, and where memory is refused the stop that says so.
 pub fn read_numbers(alloc: Global, bytes: &[u8]) -> Result<(Vec<u32>, &[u8]), Stop>
     ensures { Gives numbers_seen result (numbers_at (length bytes.now) bytes.now) }
 {
@@ -93,7 +123,11 @@ pub fn read_numbers(alloc: Global, bytes: &[u8]) -> Result<(Vec<u32>, &[u8]), St
     Ok((numbers, rest))
 }
 
-// The count, where so many items of `least` bytes or more can stand in the bytes.
+/// The count, where so many items of `least` bytes or more can stand in the bytes.
+///
+/// # Errors
+///
+/// [`Stop::Outside`] where the bytes are too few for them.
 pub fn room(count: u32, least: usize, bytes: &[u8]) -> Result<usize, Stop>
     requires { (1 ≤ least) × (least ≤ 16) }
     ensures room { IfOk result (λ n. (n ≡ count) × (n * least ≤ length bytes.now)) }

@@ -25,7 +25,7 @@ pub enum Met {
 
 /// All orders that both trees stand for: a tree of them, or why there is none.
 ///
-/// The judge is asked once at most. Where it tells its costs, the steps are at most those of one judgement of the matrix
+/// By its own count the judge is asked once at most. Where it tells its costs, the steps are at most those of one judgement of the matrix
 /// of the rows of both trees.
 ///
 /// # Errors

@@ -28,6 +28,6 @@ OneRuleLaw =
 abbrev pub OneUnitLaw : Type 0
 OneUnitLaw = (t u : UnitValue) → IsUnit t → IsUnit u → unit_text t ≡ unit_text u → t ≡ u
 
--- a text has at most 56 bytes, and 31 for each vertex
+-- a text has at most 63544 bytes: 56, and 31 for each of at most 2048 vertices
 abbrev pub TextLengthLaw : Type 0
 TextLengthLaw = (t : UnitValue) → IsUnit t → length (unit_text t) ≤ 63544

@@ -23,7 +23,7 @@ use std::alloc::Global;
 ///
 /// The text is within the grammar. The orders take a look at each of their columns and at each one of the rows, and
 /// about c² looks besides, c being the number of columns, or k(c + f) with k rows of f ones where c is above
-/// `MAX_COLUMNS`.
+/// `MAX_COLUMNS`. No clause says so.
 ///
 /// # Errors
 ///

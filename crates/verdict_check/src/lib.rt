@@ -134,8 +134,8 @@ fn check_by<L: Ledger>(
 ///
 /// Of a side with r derived rows that have f ones, a yes takes at most 3(r + f) steps for its order and its tree by each
 /// row. In version 2 it takes at most f + 2c² more for its tree by all rows, c being the number of columns. A no takes at
-/// most three steps for each line. What makes the derived rows, reads an order or a tree, or compares intervals, places
-/// and contigs counts none.
+/// most three steps for each line. What makes the derived rows, reads an order or a tree, sorts, looks for a pair that
+/// comes twice, or compares intervals, places and contigs counts none.
 ///
 /// # Errors
 ///

@@ -2,7 +2,7 @@ use Rattle.std.proofs.Common.{◌-◌, map, length, ap, subst, inr, arith}
 use Rattle.std.proofs.lemmas.List.{length-map}
 use Rattle.pq_tree.specs.Proper.{outline_of}
 use Rattle.order_list.specs.Ways.{IsWay}
-use Rattle.order_list.specs.Weights.{weight}
+use Rattle.order_list.specs.Weights.{walk_weight}
 use Rattle.order_list.proofs.Begins.{outline_at}
 use Rattle.order_list.proofs.Children.{p_counts, child_arities, child_weight, last_of_q}
 use Rattle.order_list.proofs.Ways.{none_more, none_p, none_q, p_pushed, q_pushed}
@@ -15,7 +15,7 @@ find_way-requires t c =
     let i = c.loop-place.place in
     let child = c.index-children-place.result in
     let counts = p_counts u (map outline_of ts) c.in-P.ensures.outline c.requires.arities in (
-      omega (arith, child_weight u ts i child (ap weight c.in-P.ensures.outline) c.loop-place-test.true c.index-children-place.is, c.decreases),
+      omega (arith, child_weight u ts i child (ap walk_weight c.in-P.ensures.outline) c.loop-place-test.true c.index-children-place.is, c.decreases),
       (child_arities ts i child counts.1 c.loop-place-test.true c.index-children-place.is, c.loop-place.invariant.empty),
     )
 
@@ -54,7 +54,7 @@ find_way-requires-in-Q-2 t c =
     let child = c.index-children-last.result in
     let last = last_of_q u ts child c.in-Q.ensures.outline c.requires.arities c.index-children-last.is in
     let not = subst (λ b. IsWay (outline_of c.index-children-0.result) c.args.column b c.find_way-in-Q.new.way.items) c.if-branch-2.false c.in_ok-find_way-in-Q.ensures in (
-      omega (arith, child_weight u ts (length ts - 1) child (ap weight c.in-Q.ensures.outline) last.inside c.index-children-last.is, c.decreases),
+      omega (arith, child_weight u ts (length ts - 1) child (ap walk_weight c.in-Q.ensures.outline) last.inside c.index-children-last.is, c.decreases),
       (last.arities, not.0),
     )
 

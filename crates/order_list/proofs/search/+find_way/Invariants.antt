@@ -1,11 +1,11 @@
 use Rattle.std.proofs.Common.{◌≡◌, [], map}
 use Rattle.pq_tree.specs.Proper.{outline_of}
 use Rattle.order_list.specs.Next.{OneBegins}
-use Rattle.order_list.specs.Weights.{weight}
+use Rattle.order_list.specs.Weights.{walk_weight}
 use Rattle.order_list.proofs.search.+find_way.Given as goal
 
 abbrev pub decreases-find_way : goal.decreases-find_way
-decreases-find_way l = weight (outline_of l.tree.now)
+decreases-find_way l = walk_weight (outline_of l.tree.now)
 
 abbrev pub invariant-loop-place : goal.invariant-loop-place
 invariant-loop-place l = record {

@@ -1,7 +1,7 @@
 use Rattle.std.proofs.Common.{◌-◌, ◌<◌, map, length, ap, arith}
 use Rattle.std.proofs.lemmas.List.{length-map}
 use Rattle.pq_tree.specs.Proper.{outline_of}
-use Rattle.order_list.specs.Weights.{weight}
+use Rattle.order_list.specs.Weights.{walk_weight}
 use Rattle.order_list.proofs.Children.{p_counts, q_counts, child_arities, child_weight, least_child, least_children, least_ends}
 use Rattle.order_list.proofs.search.+next_first.Goals as goal
 
@@ -12,7 +12,7 @@ next_first-requires t c =
     let i = c.loop-child.child-index in
     let child = c.child-item.result in
     let counts = p_counts u (map outline_of ts) c.in-P.ensures.outline c.requires in (
-      omega (arith, child_weight u ts i child (ap weight c.in-P.ensures.outline) c.loop-child-test.true c.child-item.is, c.decreases),
+      omega (arith, child_weight u ts i child (ap walk_weight c.in-P.ensures.outline) c.loop-child-test.true c.child-item.is, c.decreases),
       child_arities ts i child counts.1 c.loop-child-test.true c.child-item.is,
     )
 
@@ -29,7 +29,7 @@ next_first-last-requires t c =
     let child = c.index-children-children.result in
     let counts = q_counts u (map outline_of ts) c.in-Q.ensures.outline c.requires in
     let inside : i < length ts = omega (arith, counts.0, length-map ts outline_of) in (
-      omega (arith, child_weight u ts i child (ap weight c.in-Q.ensures.outline) inside c.index-children-children.is, c.decreases),
+      omega (arith, child_weight u ts i child (ap walk_weight c.in-Q.ensures.outline) inside c.index-children-children.is, c.decreases),
       child_arities ts i child counts.1 inside c.index-children-children.is,
     )
 

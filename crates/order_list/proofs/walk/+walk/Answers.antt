@@ -10,7 +10,7 @@ use Rattle.order_list.specs.Ways.{Leads}
 use Rattle.order_list.proofs.Links.{trees-Nothing, trees-InAnyOrder, within-InAnyOrder, weight-InAnyOrder, within-Forwards, weight-Forwards, within-Backwards, weight-Backwards}
 use Rattle.order_list.specs.declared.walk.Coming.{Forwards, Backwards}
 use Rattle.std.proofs.lemmas.Result.{on_ok_weaker}
-use Rattle.order_list.specs.Weights.{weight, weights, weight_within}
+use Rattle.order_list.specs.Weights.{walk_weight, walk_weights, weight_within}
 use Rattle.order_list.proofs.Gaining.{Below, gains_same, gains_only, gains_none, gains_one, ready_pushed}
 use Rattle.order_list.proofs.Steps.{popped, pushed_on, next_gains, last_gains, all_gains, ready_moved, gains_moved, same_trees, same_leaf, same_none, same_one, same_bag, leaf_first, same_p}
 use Rattle.order_list.proofs.Openings.{one_outline, one_trees, one_within, one_weight, step_place, first_opened, other_opened, bag_sound, taken_same, taken_goes_on, forward_way, forward_same, forward_goes_on, backward_way, backward_same, backward_goes_on, none_trees, no_first, no_last, first_link, last_link}
@@ -110,7 +110,7 @@ open-read_on-requires t c =
     let u = outline_of c.args.tree.now in
     let us = coming_trees c.args.rest.now in
     let b : CanBegin u c.args.way.column = leads_begin _ u c.args.way.column c.requires.trees.0.0 c.requires.way in (
-      omega (arith, ap weight c.in-Leaf.ensures.outline, c.decreases),
+      omega (arith, ap walk_weight c.in-Leaf.ensures.outline, c.decreases),
       (
         sound_right (u ∷ []) (trees_within c.args.rest.now) c.requires.trees,
         (
@@ -222,7 +222,7 @@ read_tree-read_on-requires t c =
     let a = c.in-Leaf.column in
     let is : u ≡ leaf a = ap outline_of c.in-Leaf.is ∙ outline_of-Leaf a in
     let pushed = c.push.new.self.items in (
-      omega (arith, ap weight is, c.decreases),
+      omega (arith, ap walk_weight is, c.decreases),
       (
         sound_right (u ∷ []) (trees_within c.args.rest.now) c.requires.trees,
         (
@@ -367,7 +367,7 @@ open-take-requires t c =
     let x = c.args.way.column in
     let is : bag ≡ ts = ap outlines c.as_slice.ensures.value ∙ c.in_ok-trees-in-P.ensures in
     let same : u ≡ p_node (forest bag) = c.in-P.ensures.outline ∙ ap (λ vs. p_node (forest vs)) (sym is) in (
-      omega (arith, ap weight c.in-P.ensures.outline, ap (λ vs. weights (forest vs)) is, c.decreases),
+      omega (arith, ap walk_weight c.in-P.ensures.outline, ap (λ vs. walk_weights (forest vs)) is, c.decreases),
       (
         subst (λ v. Leads (reverse c.args.way.places.now) v x) same c.requires.way,
         (

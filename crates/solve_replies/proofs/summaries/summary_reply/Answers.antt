@@ -7,7 +7,7 @@ use Rattle.pq_tree.specs.Proper.{outline_of, IsProper}
 use Rattle.pq_tree.specs.PqTree.{outline}
 use Rattle.c1p_solve.specs.Answers.{HasAllOrders}
 use Rattle.solve_replies.specs.Generated.{generated}
-use Rattle.solve_replies.specs.Summaries.{weight}
+use Rattle.solve_replies.specs.Summaries.{inner_sum}
 use Rattle.solve_replies.proofs.Drawn.{drawn_count}
 use Rattle.solve_replies.proofs.Counted.{few_nodes}
 use Rattle.solve_replies.proofs.summaries.summary_reply.Given as given
@@ -15,7 +15,7 @@ use Rattle.solve_replies.proofs.summaries.summary_reply.Goals as goal
 use Rattle.solve_replies.proofs.summaries.summary_reply.Goals.{After-root}
 
 -- the tree has fewer nodes that are no leaves than columns
-few : (g : given.Over) (c : After-root g) → weight 1 0 (outline_of c.root.result.now) + weight 0 1 (outline_of c.root.result.now) + 1 ≤ c.args.columns
+few : (g : given.Over) (c : After-root g) → inner_sum 1 0 (outline_of c.root.result.now) + inner_sum 0 1 (outline_of c.root.result.now) + 1 ≤ c.args.columns
 few g c =
     let tree = c.in_ok-grown.grown.tree in
     let all : HasAllOrders (generated c.args.seed c.args.columns c.args.rows) tree = c.in_ok-grown.ensures.tree in
@@ -46,8 +46,8 @@ returns-clause-summary g c =
     let t = outline c.in_ok-grown.grown.tree in
     let all : HasAllOrders m c.in_ok-grown.grown.tree = c.in_ok-grown.ensures.tree in
     let rows : c.args.rows ≡ length m.rows = sym (drawn_count c.args.rows _ _) in
-    let p : c.count_nodes.new.nodes.p ≡ weight 1 0 t = c.count_nodes.ensures.p ∙ from_zero (weight 1 0 (outline_of c.root.result.now)) ∙ ap (weight 1 0) c.root.ensures in
-    let q : c.count_nodes.new.nodes.q ≡ weight 0 1 t = c.count_nodes.ensures.q ∙ from_zero (weight 0 1 (outline_of c.root.result.now)) ∙ ap (weight 0 1) c.root.ensures in
+    let p : c.count_nodes.new.nodes.p ≡ inner_sum 1 0 t = c.count_nodes.ensures.p ∙ from_zero (inner_sum 1 0 (outline_of c.root.result.now)) ∙ ap (inner_sum 1 0) c.root.ensures in
+    let q : c.count_nodes.new.nodes.q ≡ inner_sum 0 1 t = c.count_nodes.ensures.q ∙ from_zero (inner_sum 0 1 (outline_of c.root.result.now)) ∙ ap (inner_sum 0 1) c.root.ensures in
     record {
       tree = t;
       shows = record { proper = subst (λ n. IsProper n t) all.columns c.in_ok-grown.grown.tree.proper; canonical = all.canonical; orders = all.orders };
