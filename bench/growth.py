@@ -7,7 +7,7 @@ NAMEs pick the series whose names begin so; default all. `--small` takes smaller
 
 The size of what is measured doubles from one call of a series to the next. The exponent is the slope of the logarithm of the instructions,
 less those of a start without words, over that of the bytes of all files and of what is written: 1 is in proportion. The exponent of the last
-step stands beside it. For `gen`, which reads no file and writes a summary, the size is what `gen` draws: columns, rows and ones.
+step is beside it. For `gen`, which reads no file and writes a summary, the size is what `gen` draws: columns, rows and ones.
 A line says where an exponent is above 1.1, and whether that is known; the last line counts these. `check` judges what `solve` wrote,
 `check-core` what `core` wrote, `check-unit` what `unit` wrote, also with a last left end that is wrong; `extend` takes half of the rows
 as further ones. Files are made from a fixed seed in a temporary folder.

@@ -2,12 +2,12 @@
 """Reads any table, asks `pq`, and writes a page with names and a picture. Each claim comes from a text that `pq` judged.
 
     pqpage look FILE                 what would be read, and what looks wrong; writes nothing
-    pqpage report FILE OUT           OUT.html, OUT.svg, OUT.csv (the table in order), OUT.json, and the proof: OUT.in, OUT.verdict, OUT.core
+    pqpage report FILE OUT           OUT.html, OUT.svg, OUT.csv (the table in order), OUT.json, and the proof (OUT.in, OUT.verdict, and after a no more)
     pqpage json FILE                 the answer with names on standard output, for scripts
     pqpage convert FILE OUT.in       the exact file for pq, with OUT.names.json
     pqpage again OUT.json            judges the proof anew, and that the page, the names and the picture are those of the texts
 
-`pqpage COMMAND -h` tells the words of each. The status is 0 for an answer, yes or no (with --status 0 for yes and 1 for no); 2 where the
+`pqpage COMMAND -h` lists the words of each. The status is 0 for an answer, yes or no (with --status 0 for yes and 1 for no); 2 where the
 words are wrong; 3 where the file can't be read as it is; 4, 5 and 6 as of `pq` for a read fault, a write fault and no memory; 7 where
 the proof did not check. From a script: `pqpage.answer(path, order="columns")` gives the dictionary of `json`.
 """

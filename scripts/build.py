@@ -1,13 +1,13 @@
 #!/usr/bin/env python3
-"""Proves and builds the program: each crate as soon as those that it stands on are built, with all processors.
+"""Proves and builds the program: each crate as soon as those that it uses are built, with all processors.
 
 Usage: scripts/build.py [run WORDS]     `./pq` calls it where the program is missing or older than a source, and has it run afterwards
 
 A library is built by its statements, as in the gate: all of it is proved, and what a crate above reads of it is what can be cited. So no
-proof is read twice. The longest chain of crates that stand on one another is begun first, by the seconds that their proofs took when they
+proof is read twice. The longest chain of crates, of which each uses the one before, is begun first, by the seconds that their proofs took when they
 were last measured (the table of docs/WORKING.md).
 
-It tells each crate on standard error as it begins, with the minutes that are left. What was built stays: a call after an interrupted one
+It names each crate on standard error as it begins, with the minutes that are left. What was built stays: a call after an interrupted one
 goes on with the crates that are left, and a second call at the same time waits for the first. The status is that of the run, or 0 without
 one; 70 where a crate isn't proved, after the prover's own words, or where the toolchain is missing or the disk refuses; 130 where it was
 interrupted.

@@ -6,7 +6,7 @@ Usage: scripts/definitions.py                    compares the page with the sour
        scripts/definitions.py write              writes the lists of the page anew
        scripts/definitions.py COMMAND [KIND]     prints the list of one command, such as `solve matrix` or `gen`
 
-A definition is followed by the words that it cites, through the `use` lines of its file. Each file stands below those that it cites, so a
+A definition is followed by the words that it cites, through the `use` lines of its file. Each file comes after those that it cites, so a
 reader who begins at the top meets no word before its definition. Lines are counted without comments, blank lines and `use` lines.
 
 Of one command and kind, what the others alone meet is left out: equations whose left side names another case of `Command`, of `Kind` or of
@@ -308,7 +308,7 @@ def table(listing, *known):
     rows = [f"| {path} | {lines} | {told(names)} |" for path, names, lines in listing.beyond(*known)]
     more = more_cases(listing, known)
     if more:
-        rows.append(f"| further cases of definitions that stand above | {more} | |")
+        rows.append(f"| further cases of the definitions above | {more} | |")
     return ["| File | Lines | Definitions, each with the line where it begins |", "|---|---|---|", *rows,
             f"| together | {listing.lines(*known) + more} | |"]
 

@@ -1,5 +1,5 @@
 #!/usr/bin/env python3
-"""Runs a command of the toolchain, and tells for each crate how long its proof, its tests and its must-fail edits took.
+"""Runs a command of the toolchain, and says for each crate how long its proof, its tests and its must-fail edits took.
 
 Usage: scripts/gate_times.py rt ci            prints what the command prints, and then the table
        scripts/gate_times.py write rt ci      and writes the table into docs/WORKING.md as well

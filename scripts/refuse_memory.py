@@ -4,7 +4,7 @@ with ample memory.
 
 Usage: scripts/refuse_memory.py     after `rt ci` or `./pq`, which leave the program in crates/pq/out/pq; needs a C compiler, `cc`
 
-It is no part of the gate. The program is run over a library of a few lines of C that stands before the C library's own functions and
+It is no part of the gate. The program is run over a library of a few lines of C that comes before the C library's own functions and
 refuses one request, the first, then the second, and so on, up to the one past the last. Then it refuses that one and all behind it. Where
 the program has the C library in it, it is linked once more without.
 The last line is `N passed, N failed`; the status is 0 where nothing failed.

@@ -5,7 +5,7 @@ Usage: scripts/release.py               takes what scripts/library.py and script
        scripts/release.py compare FOLDER   says whether a folder that was handed out has the same files as dist/ of this checkout
 
 Whoever has this clone, the toolchain and the same versions of the tools makes the same files again: dist/SUMS names the versions, and the
-sum of each file (SHA-256). Versions that differ are told, and are no difference of files. The status is 0; 1 where files differ; 70 where
+sum of each file (SHA-256). It names versions that differ; they don't count as a difference of files. The status is 0; 1 where files differ; 70 where
 something is missing or not proved, so where there is nothing to compare as well.
 """
 

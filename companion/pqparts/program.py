@@ -11,7 +11,7 @@ from dataclasses import dataclass, field
 from .stops import NO_MEMORY, NOT_PROVED, NOT_READABLE, READ_FAULT, WORDS, WRITE_FAULT, Refusal, Stop
 
 CHECKOUT = os.path.dirname(os.path.dirname(os.path.dirname(os.path.abspath(__file__))))
-MINUTES = "about 10 minutes"
+MINUTES = "11 to 25 minutes"
 # What pq's codes of refusals mean; the page docs/FORMATS.md says it at length.
 CODES = {1: "nothing to read, or no column", 2: "a byte, a word or a cell outside the format", 3: "a wrong number of entries or lines",
          4: "a number or a name outside its range",

@@ -15,8 +15,9 @@ use pq_arena::Arena;
 use row_model::Matrix;
 use step_count::{Ledger, Steps};
 
-/// Finds the smallest node of the tree that holds row `k` of the matrix, and labels the nodes at and below it that meet
-/// the row. What the last pass left in `work` is forgotten first. The arena stays as it is.
+/// Finds the smallest node of the tree that holds row `k` of the matrix. After [`Found::Root`] the nodes at and below it
+/// that meet the row have labels, after [`Found::Inside`] those at and below the children of the run, and after
+/// [`Found::Split`] none. What the last pass left in `work` is forgotten first. The arena stays as it is.
 ///
 /// The bounds on the steps count looks at nodes. Where the answer isn't [`Found::Split`], the second one counts the
 /// nodes at and below the pertinent root alone, however far that lies below the root of the tree.

@@ -94,7 +94,7 @@ impl Work {
         self.tables.inside
     }
 
-    /// How many children of `n` are full, and how many are partial.
+    /// How many children of `n` are full, and how many are partial, as the last pass counted them.
     pub fn counts(&self, n: NodeId) -> Counts
         requires { n.index < size_of self.now }
         ensures full { result.full ≡ fulls_at self.now n.index }
@@ -107,7 +107,7 @@ impl Work {
         }
     }
 
-    /// The first of the labelled children of `n`.
+    /// The first of the labelled children of `n`, as the last pass and [`Work::put`] left them.
     pub fn first_child(&self, n: NodeId) -> Option<NodeId>
         requires { n.index < size_of self.now }
         ensures { result ≡ first_of self.now n.index }
@@ -117,7 +117,7 @@ impl Work {
             .node_of(self.tables.chains.first[n.index() as usize])
     }
 
-    /// The labelled child that comes after the labelled child `n`.
+    /// The labelled child that comes after the labelled child `n`, as the last pass and [`Work::put`] left them.
     pub fn next_child(&self, n: NodeId) -> Option<NodeId>
         requires { n.index < size_of self.now }
         ensures { result ≡ next_of self.now n }

@@ -1,5 +1,5 @@
 // Rows that are taken as they come, and not kept.
-ghost use Rattle.std.specs.Prelude.{◌≡◌, ◌≢◌, ◌+◌, ◌*◌, ◌≤◌, ℕ, List, [], ◌++◌, length, take, sum_by, IfOk};
+ghost use Rattle.std.specs.Prelude.{◌≡◌, ◌≢◌, ◌+◌, ◌*◌, ◌≤◌, ℕ, List, [], ◌++◌, length, take, sum_by, None, IfOk};
 ghost use Rattle.column_order.specs.Orders.{HasValidOrder};
 ghost use Rattle.c1p_solve.specs.Answers.{HasAllOrders, IsAnswer, IsInTurn};
 ghost use Rattle.c1p_solve.specs.Growing.{HasRefused, HasTaken, TakesRows};
@@ -32,8 +32,8 @@ pub fn begin(alloc: Global, columns: u32) -> Result<Chosen, NoMemory>
 /// Takes the one row of `m` after the rows that were taken, or refuses it where there is no valid order with it. The
 /// rows that were taken are needed no more.
 ///
-/// A refusal leaves the reducer as it is, and comes without a cycle. All rows together take at most 1024 steps for each
-/// column, row and one.
+/// A refusal leaves the reducer as it is, and comes without a cycle. All rows that were taken, together with one that is
+/// refused, take at most 1024 steps for each column, row and one.
 pub fn take_next<L: Ledger>(reducer: &mut Chosen, m: &Matrix, steps: &mut Steps<L>) -> Taken
     requires one { length m.now.rows ≡ 1 }
     requires taken { (rows : List (List ℕ)) × (s : ℕ) × HasTaken m.now.columns rows reducer.old s steps.old }
@@ -43,6 +43,7 @@ pub fn take_next<L: Ledger>(reducer: &mut Chosen, m: &Matrix, steps: &mut Steps<
     ensures refused { result ≢ Taken.Ok → (rows : List (List ℕ)) (s : ℕ) →
         HasTaken m.now.columns rows reducer.old s steps.old →
         HasValidOrder m.now.columns (rows ++ m.now.rows) → ⊥ }
+    ensures bare { result ≢ Taken.Ok → result ≡ Taken.No None }
     ensures unchanged { result ≢ Taken.Ok → reducer.new ≡ reducer.old }
     ensures most { (rows : List (List ℕ)) (s : ℕ) →
         HasTaken m.now.columns rows reducer.old s steps.old →

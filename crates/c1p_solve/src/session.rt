@@ -77,8 +77,8 @@ pub enum Taken {
 }
 
 impl Session {
-    /// A session of this matrix, which allocates by `alloc`, or an odd cycle where the matrix has no valid order. It
-    /// takes as many steps as [`answer`](crate::answer).
+    /// A session of this matrix, which allocates by `alloc`, or an odd cycle where the matrix has no valid order. The
+    /// bound of its steps is that of [`answer`](crate::answer).
     ///
     /// # Errors
     ///

@@ -21,6 +21,8 @@ const BOTH: &[Both] = &[
     ("circular", TRIANGLE, 1_000, Ended::Checked(0, 0), VALID),
     ("proper", CLAW, 1_000, Ended::Checked(1, 0), VALID),
     ("matrix", b"12\n", 1_000, Ended::Unsolved(3), b""),
+    ("matrix", PATH, 75, Ended::Checked(0, 0), VALID),
+    ("matrix", PATH, 74, Ended::Unsolved(5), b""),
     ("matrix", PATH, 10, Ended::Unsolved(5), b""),
     ("matrices", PATH, 1_000, Ended::Unsolved(2), b""),
 ];

@@ -74,6 +74,7 @@ impl Entries {
         ensures ready { (n : ℕ) → AreReady self.old n → AreReady self.new n }
         ensures full { (x : ℕ) → is_full self.new x ≡ false }
         ensures hits { (x : ℕ) → hits self.new x ≡ 0 }
+        ensures next { self.old.stamp < 4294967295 → self.new ≡ record self.old { stamp = self.old.stamp + 1 } }
     {
         if self.stamp == u32::MAX {
             self.clear_labels();

@@ -6,8 +6,8 @@ use Rattle.reply_laws.specs.Replies.{refusal_of}
 use Rattle.pq_c.specs.Given.{IsGiven, OfFiles}
 use Rattle.pq_c.specs.Called.{IsRunOf}
 
--- Where all of a command's files are among the two, the status is 3 if one of them is refused; if none is, it is 0 or
--- 1, or 5 where the reply has too little room. Or memory is refused.
+-- Where all of a command's files are among the two, the status is 3 if one of them is refused; if none is, it is 0, 1
+-- or 5. Or memory is refused.
 abbrev pub CompleteInMemoryLaw : Type 0
 CompleteInMemoryLaw =
     (command : Command) (first second copy shown : List ℕ) (room line_room status : ℕ) →

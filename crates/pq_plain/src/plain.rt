@@ -11,9 +11,9 @@ use std::alloc::Global;
 use step_count::{Ledger, Steps};
 use template_theory::{Reducer, Step};
 
-/// A reducer whose tree owns its nodes. A row costs at most a few walks over the tree: the pertinent root, the
-/// smallest node that holds the row, is found in one walk; its new subtree is made of copies, and takes its place
-/// when all memory has been had.
+/// A reducer whose tree owns its nodes. A row costs at most a few walks over the tree, which no clause says: the
+/// pertinent root, the smallest node that holds the row, is found in one walk; its new subtree is made of copies, and
+/// takes its place when all memory has been had.
 #[derive(Drop)]
 pub struct PlainReducer {
     alloc: Global,

@@ -110,7 +110,7 @@ impl ArenaReducer {
         ensures root_few { result ≡ Step.Taken →
             steps.new ≤ steps.old + 8 * length (row_at m.now.rows k) + 38 * nodes_met_below_root (row_at m.now.rows k) (outline_at self.old) + 8 }
         ensures amortised { IsFrugal (row_at m.now.rows k) (outline_at self.old) (outline_at self.new) steps.old steps.new result }
-        ensures empty { row_at m.now.rows k ≡ [] → (self.new ≡ self.old) × (steps.new ≡ steps.old) }
+        ensures empty { row_at m.now.rows k ≡ [] → (result ≡ Step.Taken) × (self.new ≡ self.old) × (steps.new ≡ steps.old) }
         ensures kept { IsRowKept self.old (column_leaves (row_at m.now.rows k)) → (result ≡ Step.Taken) × (self.new ≡ self.old) }
         ensures in_place { IsInPlace (column_leaves (row_at m.now.rows k)) self.old self.new }
     {
@@ -167,7 +167,7 @@ impl ArenaReducer {
         ensures root_few { result ≡ Step.Taken →
             steps.new ≤ steps.old + 8 * length (row_at m.now.rows k) + 38 * nodes_met_below_root (row_at m.now.rows k) (outline_at self.old) + 8 }
         ensures amortised { IsFrugal (row_at m.now.rows k) (outline_at self.old) (outline_at self.new) steps.old steps.new result }
-        ensures empty { row_at m.now.rows k ≡ [] → (self.new ≡ self.old) × (steps.new ≡ steps.old) }
+        ensures empty { row_at m.now.rows k ≡ [] → (result ≡ Step.Taken) × (self.new ≡ self.old) × (steps.new ≡ steps.old) }
         ensures kept { IsRowKept self.old (column_leaves (row_at m.now.rows k)) → (result ≡ Step.Taken) × (self.new ≡ self.old) }
         ensures in_place { IsInPlace (column_leaves (row_at m.now.rows k)) self.old self.new }
     {

@@ -45,7 +45,7 @@ pub fn reduce_arena<L: Ledger>(
     ensures few { steps.new ≤ steps.old + 8 * length (row_at m.now.rows k) + 36 * nodes_met (row_at m.now.rows k) (outline_at arena.old) + 6 }
     ensures root_few { result ≡ Step.Taken →
         steps.new ≤ steps.old + 8 * length (row_at m.now.rows k) + 38 * nodes_met_below_root (row_at m.now.rows k) (outline_at arena.old) + 8 }
-    ensures empty { row_at m.now.rows k ≡ [] → (arena.new ≡ arena.old) × (steps.new ≡ steps.old) }
+    ensures empty { row_at m.now.rows k ≡ [] → (result ≡ Step.Taken) × (arena.new ≡ arena.old) × (steps.new ≡ steps.old) }
     ensures kept { IsRowKept arena.old (column_leaves (row_at m.now.rows k)) → (result ≡ Step.Taken) × (arena.new ≡ arena.old) }
 {
     arena.layout_law();

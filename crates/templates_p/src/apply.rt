@@ -72,6 +72,7 @@ pub fn apply_p2<L: Ledger>(
     requires stands { StandsP2 arena.old work.old node.index }
     ensures treated { IsTreated arena.old arena.new work.old work.new node.index result.index }
     ensures becomes { BecomesTree arena.old arena.new work.old node.index result.index (IsP2 true (child_trees arena.old node.index)) }
+    ensures answer { result ≡ node }
     ensures ticks { steps.new ≤ steps.old + 64 * (fulls_at work.old node.index + partials_at work.old node.index + 1) }
     ensures few { steps.new ≤ steps.old + 2 * (fulls_at work.old node.index + partials_at work.old node.index) + 2 }
 {
@@ -168,8 +169,8 @@ pub fn apply_p4<L: Ledger>(
 }
 
 /// Applies P5 at `node`, which is not the pertinent root: the partial child takes its place, with the empty
-/// children, as one node, at its empty end and the full children, as one node, at its full end. The answer is that
-/// child, with the label of `node`.
+/// children, as one node, at its empty end and the full children, as one node, at its full end. The answer is the node
+/// in the place of `node`, with its label.
 ///
 /// It ticks at most 64 times for each labelled child, and 64 times more. That is wide: twice for each,
 /// and 15 times more, is the narrow bound.

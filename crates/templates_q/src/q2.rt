@@ -182,6 +182,7 @@ pub fn apply_q2<L: Ledger>(
     requires stands { StandsQ2 arena.old work.old node.index }
     ensures treated { IsTreated arena.old arena.new work.old work.new node.index result.index }
     ensures becomes { BecomesPartial arena.old arena.new work.old work.new node.index result.index (IsQ2 (child_trees arena.old node.index)) }
+    ensures answer { result ≡ node }
     ensures unchanged { HasNoPartial arena.old work.old node.index → arena.new ≡ arena.old }
     ensures work { work.new ≡ work.old }
     ensures ticks { steps.new ≤ steps.old + 64 * (fulls_at work.old node.index + partials_at work.old node.index + 1) }

@@ -214,6 +214,7 @@ pub fn apply_q3<L: Ledger>(
     ensures work { work.new ≡ work.old }
     ensures treated { (IsRunMeant work.old true → ⊥) → IsTreated arena.old arena.new work.old work.new node.index result.index }
     ensures becomes { (IsRunMeant work.old true → ⊥) → BecomesQ3 arena.old arena.new work.old node.index result.index }
+    ensures answer { (IsRunMeant work.old true → ⊥) → result ≡ node }
     ensures replaced { IsRunMeant work.old true → (q : ℕ) → IsInMarkedRun arena.old work.old q node.index → IsReplacedAt arena.old arena.new q q }
     ensures kept { IsRunMeant work.old true → (q : ℕ) → IsInMarkedRun arena.old work.old q node.index → AreKeptBelow arena.old arena.new work.old work.new q }
     ensures child { IsRunMeant work.old true → (q : ℕ) → IsInMarkedRun arena.old work.old q node.index → 1 ≤ occurs (children_at arena.new q) result.index }

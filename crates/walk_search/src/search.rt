@@ -96,11 +96,15 @@ pub fn walk_among<L: Ledger>(
     Ok(found)
 }
 
-// A closed walk of odd length in the graph of the rows 1 to `k`, which have one, across the gaps that the rows before
-// row `k` leave open: only row `k` is looked at for each column that it lacks, so the time does not grow with the
-// number of rows once their gaps are known. It leaves room in its bound for a step for each one of these. An answer costs
-// at least a step for each column and each one of row `k`, and two more: its first column is read again, and a pair is
-// tried.
+/// A closed walk of odd length in the graph of the rows 1 to `k`, which have one, across the gaps that the rows before
+/// row `k` leave open: only row `k` is looked at for each column that it lacks, so the time does not grow with the
+/// number of rows once their gaps are known. It leaves room in its bound for a step for each one of these. An answer
+/// costs at least a step for each column and each one of row `k`, and two more: its first column is read again, and a
+/// pair is tried.
+///
+/// # Errors
+///
+/// `NoMemory`.
 pub fn walk_across<L: Ledger>(
     alloc: Global,
     m: &CountedRows,
