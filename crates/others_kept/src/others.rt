@@ -1,5 +1,5 @@
 // Rows of which each in turn is left out.
-ghost use Rattle.std.specs.Prelude.{◌↔◌, ◌<◌, length, IsTrue, IfOk};
+ghost use Rattle.std.specs.Prelude.{◌↔◌, ◌<◌, ◌≤◌, length, IsTrue, IfOk};
 ghost use Rattle.row_model.specs.Rows.{IsRow};
 ghost use Rattle.others_kept.specs.Others.{IsValidForOthers};
 ghost use Rattle.others_kept.specs.Counts.{AreOthers};
@@ -66,6 +66,8 @@ impl Others {
 
 // Whether the rows are so many that a look at each two columns takes less than each order at each row. Where they are
 // not, these looks are about as many as pairs of columns, at most.
-fn are_many(columns: u32, rows: &[u32]) -> bool {
+fn are_many(columns: u32, rows: &[u32]) -> bool
+    ensures { IsTrue result → columns ≤ MAX_COLUMNS }
+{
     columns <= MAX_COLUMNS && rows.len().saturating_mul(rows.len()) > columns as usize
 }
