@@ -34,10 +34,13 @@ LiesWithin outer (Q d) = outer ≤ d
 abbrev pub gap_at : List LeafGap → ℕ → LeafGap
 gap_at gs i = slice_index_or gs i (P 0)
 
--- each gap from first to before last lies within the gap before first and within the gap at last
+-- the gap at an index lies within the gap before first and within the gap at last
+abbrev pub IsWithinBoth : List LeafGap → ℕ → ℕ → ℕ → Type 0
+IsWithinBoth gs first last i = LiesWithin (depth (gap_at gs (first - 1))) (gap_at gs i) × LiesWithin (depth (gap_at gs last)) (gap_at gs i)
+
+-- each gap from first to before last lies within both
 abbrev pub AreWithin : List LeafGap → ℕ → ℕ → Type 0
-AreWithin gs first last =
-    (i : ℕ) → first ≤ i → i < last → LiesWithin (depth (gap_at gs (first - 1))) (gap_at gs i) × LiesWithin (depth (gap_at gs last)) (gap_at gs i)
+AreWithin gs first last = (i : ℕ) → first ≤ i → i < last → IsWithinBoth gs first last i
 
 -- the gaps of a proper tree, a gap at depth 0 at each end, with the positions of its leaves
 pub record AreGaps (t : Outline) (g : Gaps) : Type 0 where

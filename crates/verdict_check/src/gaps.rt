@@ -9,7 +9,7 @@ ghost use Rattle.pq_tree.specs.Outline.{Outline, leaves, leaves_of};
 ghost use Rattle.pq_tree.specs.Proper.{outline_of, forest, HasArities, HaveArities};
 ghost use Rattle.pq_tree.specs.PqTree.{column_count, outline};
 ghost use Rattle.row_model.specs.Rows.{IsRow};
-ghost use Rattle.verdict_check.specs.Gaps.{gaps, gaps_of, depth, LiesWithin, AreWithin, AreGaps, gap_at};
+ghost use Rattle.verdict_check.specs.Gaps.{gaps, gaps_of, depth, LiesWithin, IsWithinBoth, AreWithin, AreGaps, gap_at};
 ghost use Rattle.verdict_check.specs.YesTests.{AllKeep};
 
 use crate::row_steps::count_row;
@@ -96,23 +96,29 @@ impl Gaps {
 }
 
 /// Whether the gaps from `first` to before `last` lie within the gap before them and within the gap after them.
+/// Each one up to the first that does not is a step.
 fn are_within<L: Ledger>(gaps: &[LeafGap], first: usize, last: usize, steps: &mut Steps<L>) -> bool
     requires { (1 ≤ first) × (first ≤ last) × (last < length gaps.now) }
     ensures within { IsTrue result ↔ AreWithin gaps.now first last }
     ensures ticks { steps.new ≤ steps.old + (last - first) }
     ensures turns { steps.old ≤ steps.new }
     ensures each { IsTrue result → steps.old + (last - first) ≤ steps.new }
+    ensures looks { (k : ℕ) → first ≤ k → k < last →
+        ((i : ℕ) → first ≤ i → i < k → IsWithinBoth gaps.now first last i) → steps.old + (k + 1 - first) ≤ steps.new }
 {
     let outer = gaps[first - 1].depth().max(gaps[last].depth());
     all_within(&gaps[first..last], outer, steps)
 }
 
-/// Whether all these gaps lie deeper than this, or are at a Q-node at least as deep.
+/// Whether all these gaps lie deeper than this, or are at a Q-node at least as deep. Each one up to the first that does
+/// not is a step.
 fn all_within<L: Ledger>(gaps: &[LeafGap], outer: u32, steps: &mut Steps<L>) -> bool
     ensures within { IsTrue result ↔ EachIndex gaps.now (λ i. LiesWithin outer (gap_at gaps.now i)) }
     ensures ticks { steps.new ≤ steps.old + length gaps.now }
     ensures turns { steps.old ≤ steps.new }
     ensures each { IsTrue result → steps.old + length gaps.now ≤ steps.new }
+    ensures looks { (k : ℕ) → k < length gaps.now →
+        ((i : ℕ) → i < k → LiesWithin outer (gap_at gaps.now i)) → steps.old + (k + 1) ≤ steps.new }
 {
     for gap in gaps {
         steps.tick();

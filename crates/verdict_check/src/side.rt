@@ -1,6 +1,6 @@
 // The tests of a yes, on the order and the tree of each side.
 ghost use Rattle.std.specs.Prelude.{◌≡◌, ◌↔◌, ◌+◌, ◌*◌, ◌≤◌, ℕ, List, All, length, sum_by, IsTrue, IfOk};
-ghost use Rattle.column_order.specs.Orders.{Keeps};
+ghost use Rattle.column_order.specs.Orders.{IsOrder, Keeps};
 ghost use Rattle.row_model.specs.Graph.{row_at};
 ghost use Rattle.pq_tree.specs.Outline.{IsFrontier};
 ghost use Rattle.pq_tree.specs.PqTree.{column_count, outline};
@@ -123,7 +123,8 @@ fn complete_fault<L: Ledger>(
 }
 
 // Whether the list is a textbook order of the side with this derived matrix: whether it is an order that keeps each
-// row. A circular order is turned first, so that it begins with column 1.
+// row. A circular order is turned first, so that it begins with column 1. Of each order of the columns, one that does
+// not keep the rows too, each row and each one is a step.
 fn is_textbook_order<L: Ledger>(
     alloc: Global,
     instance: &Instance,
@@ -138,6 +139,8 @@ fn is_textbook_order<L: Ledger>(
         IsTrue yes ↔ IsTextbookOrder (instance_value instance.now) side order.now) }
     ensures ticks { steps.new ≤ steps.old + (length derived.now.rows + sum_by length derived.now.rows) }
     ensures turns { IfOk result (λ yes. IsTrue yes →
+        steps.old + (length derived.now.rows + sum_by length derived.now.rows) ≤ steps.new) }
+    ensures order { IfOk result (λ _. IsOrder derived.now.columns order.now →
         steps.old + (length derived.now.rows + sum_by length derived.now.rows) ≤ steps.new) }
 {
     // What the derived matrix says of the textbook orders, and rotations of circular ones.
