@@ -27,8 +27,8 @@ count_after_choice before (Ok _) = before
 count_after_choice before (Err choice.Failed) = one_more before
 count_after_choice before (Err choice.NoMemory) = before
 
--- a choice fails exactly where it is to, if memory is not refused
+-- a choice fails exactly where it is to, and never lacks memory
 abbrev pub FailsExactly : {T : Type 0} → Bool → Result T ChooseError → Type 0
 FailsExactly fails (Ok _) = fails ≡ false
 FailsExactly fails (Err choice.Failed) = fails ≡ true
-FailsExactly fails (Err choice.NoMemory) = ⊤
+FailsExactly fails (Err choice.NoMemory) = ⊥

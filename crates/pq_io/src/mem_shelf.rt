@@ -127,7 +127,8 @@ impl Shelf for MemShelf {
 
     ghost has_chosen = { λ shelf. is_some shelf.left };
 
-    /// It fails exactly for a name that was not added, and where the call is one of those that are to fail.
+    /// It fails exactly for a name that was not added, and where the call is one of those that are to fail. It takes no
+    /// memory, so the answer is `Failed` then.
     fn choose(&mut self, _alloc: Global, name: &str) -> Result<(), ChooseError>
         ensures chosen { OnOk result (IsTrue (is_some self.new.left)) }
         ensures left { OnOk result (self.new.left ≡ content_of self.old.files name.now) }

@@ -1,5 +1,10 @@
 // A shelf that never fails.
-ghost use Rattle.std.specs.Prelude.{◌≡◌, ◌≢◌, ℕ, List, [], Some, None, is_some, OnOk, OnErr};
+ghost use Rattle.std.specs.Prelude.{◌≡◌, ◌≢◌, ◌<◌, ℕ, List, [], Some, None, length, is_some, false, IsTrue, IsOk, OnOk, OnErr};
+ghost use Rattle.std.specs.Io.{ReadsAtMost};
+ghost use Rattle.std.specs.Io.KnownBytes.{ReadConsumes};
+ghost use Rattle.pq_io.specs.Faults.{HasCause, ChangedOnlyIfFailed};
+ghost use Rattle.pq_io.specs.Taken.{Asks, HandsOut};
+ghost use Rattle.pq_io.specs.Shelf.{HasChoiceCause, ChangedOnlyIfNotFound};
 ghost use Rattle.pq_io.specs.NamedFiles.{content_of};
 ghost use Rattle.pq_io.specs.NeverShelf.{content_or_empty};
 
@@ -8,7 +13,7 @@ use crate::{ChooseError, Failed, MemShelf, NoMemory, Shelf};
 use std::alloc::Global;
 use std::marker::Model;
 
-/// A shelf in memory of which no call fails. A name that was never added is an empty file.
+/// A shelf in memory whose choices and reads never fail. A name that was never added is an empty file.
 ///
 /// Contracts see it as its files, the bytes left of the chosen one, and the names asked for with what reads handed out of
 /// each.
@@ -70,7 +75,18 @@ impl Shelf for NeverShelf {
 
     ghost has_chosen = { λ shelf. is_some shelf.left };
 
-    fn choose(&mut self, alloc: Global, name: &str) -> Result<(), ChooseError> {
+    /// It never fails, also for a name that was never added.
+    fn choose(&mut self, alloc: Global, name: &str) -> Result<(), ChooseError>
+        ensures chosen { OnOk result (IsTrue (is_some self.new.left)) }
+        ensures left { OnOk result (self.new.left ≡ Some (content_or_empty self.old.files name.now)) }
+        ensures none_chosen { OnErr result (is_some self.new.left ≡ false) }
+        ensures asked { Asks self.old.taken self.new.taken name.now result }
+        ensures cause { HasChoiceCause 0 0 result }
+        ensures told { ChangedOnlyIfNotFound 0 0 result }
+        ensures content { (other : List ℕ) → Some (content_or_empty self.new.files other) ≡ Some (content_or_empty self.old.files other) }
+
+        ensures succeeds { IsOk result }
+    {
         let outcome = self.shelf.choose(alloc, name);
         self.is_missing = matches!(outcome, Err(ChooseError::Failed));
         match outcome {
@@ -82,7 +98,20 @@ impl Shelf for NeverShelf {
         }
     }
 
-    fn read(&mut self, buf: &mut [u8]) -> Result<usize, Failed> {
+    /// It never fails.
+    fn read(&mut self, buf: &mut [u8]) -> Result<usize, Failed>
+        requires room { 0 < length buf.old }
+        requires chosen { IsTrue (is_some self.old.left) }
+        ensures bound { ReadsAtMost result buf.new }
+        ensures bytes { ReadConsumes self.old.left self.new.left result buf.new }
+        ensures cause { HasCause 0 0 result }
+        ensures told { ChangedOnlyIfFailed 0 0 result }
+        ensures chosen { IsTrue (is_some self.new.left) }
+        ensures taken { HandsOut self.old.taken self.new.taken result buf.new }
+        ensures content { (other : List ℕ) → Some (content_or_empty self.new.files other) ≡ Some (content_or_empty self.old.files other) }
+
+        ensures succeeds { IsOk result }
+    {
         if self.is_missing {
             self.history.hand_out(&buf[..0]);
             return Ok(0);
