@@ -35,9 +35,10 @@ pub enum Cored {
 ///
 /// Where it answers, and by the judge's own count, a judge that goes through the rows in turn was asked once at most if
 /// there is a valid order, and else at most twice for each row of the core and once more. Any other judge was asked at
-/// most (n + 1)(2n + 1) + 1 times, n being the number of rows. Where a judge that goes through the rows in turn tells its costs, and no larger matrix costs
-/// more, an answer takes at most the steps of as many judgements of this matrix. Where memory is refused, it takes at most
-/// those of 2n + 1.
+/// most (n + 1)(2n + 1) + 1 times, n being the number of rows. Where a judge that goes through the rows in turn tells its
+/// costs, and no larger matrix costs more, an answer takes at most the steps of as many judgements of this matrix. Where
+/// memory is refused, a judge that goes through the rows in turn was asked at most 2n + 1 times, and if it tells its costs
+/// so, the steps are at most those of as many judgements.
 ///
 /// # Errors
 ///
@@ -51,6 +52,8 @@ pub fn find_core<J: Judge, L: Ledger>(
     ensures cored { IfOk result (IsCored m.now) }
     ensures asked { IsTrue J.in_turn
         → IfOk result (λ found. J.asked judge.new ≤ J.asked judge.old + judgements_of found) }
+    ensures asked_any { IsTrue J.in_turn
+        → J.asked judge.new ≤ J.asked judge.old + (2 * length m.now.rows + 1) }
     ensures most { IfOk result (λ _. J.asked judge.new
         ≤ J.asked judge.old + ((length m.now.rows + 1) * (2 * length m.now.rows + 1) + 1)) }
     ensures yes { IfSome J.costs (λ c. IfOk result (IsCoredWithin c m.now steps.old steps.new)) }
@@ -98,6 +101,8 @@ fn core_among<J: Judge, L: Ledger>(
     ensures asked { IsTrue J.in_turn
         → IfOk result (λ core. J.asked judge.new + (length blamed.rows.items - blamed.untried)
         ≤ J.asked judge.old + 2 * length core.rows + 1) }
+    ensures asked_any { IsTrue J.in_turn
+        → J.asked judge.new ≤ J.asked judge.old + (length blamed.rows.items + blamed.untried + 1) }
     ensures most { IfOk result (λ _. J.asked judge.new
         ≤ J.asked judge.old + (length blamed.rows.items + 1) * (2 * length blamed.rows.items + 1)) }
     ensures judgements { IsTrue J.in_turn

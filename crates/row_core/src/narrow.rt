@@ -44,6 +44,7 @@ pub fn all_tried<J: Judge, L: Ledger>(
         → IfOk result (λ found. AreNeeded m.now found.rows.items 0) }
     ensures asked { IfOk result (λ found. J.asked judge.new + (length blamed.rows.items - blamed.untried)
         ≤ J.asked judge.old + length found.rows.items + 1) }
+    ensures asked_any { J.asked judge.new ≤ J.asked judge.old + (blamed.untried + 1) }
     ensures judgements { IfOk result (λ found. (k : ℕ)
         × (k + (length blamed.rows.items - blamed.untried) ≤ length found.rows.items + 1)
         × AreJudgements J.costs m.now k steps.old steps.new) }

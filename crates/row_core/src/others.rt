@@ -31,7 +31,7 @@ pub fn each_left_out<J: Judge, L: Ledger>(
 ) -> Result<Tried, NoMemory>
     requires { IsNarrowed m.now set.now }
     ensures tried { IfOk result (IsTried m.now set.now.rows.items) }
-    ensures asked { IfOk result (λ _. J.asked judge.new ≤ J.asked judge.old + length set.now.rows.items) }
+    ensures asked { J.asked judge.new ≤ J.asked judge.old + length set.now.rows.items }
     ensures judgements { AreJudgements J.costs m.now (length set.now.rows.items) steps.old steps.new }
 {
     let mut orders = Orders::new(alloc);

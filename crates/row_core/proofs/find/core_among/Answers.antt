@@ -27,13 +27,13 @@ rounds-preserved g c =
       judgements = λ turn. absurd (tried.2 (c.in_ok-set.ensures.needed turn (c.rounds.invariant.needed turn)));
       few = omega (arith, tried.1, c.in_ok-set.ensures.few, c.rounds.invariant.few);
       most = one_round _ _ _ _ (length c.args.blamed.rows.items) _ (omega (arith, tried.1, c.in_ok-set.ensures.few))
-          (omega (arith, c.in_ok-set.ensures.asked, c.in_ok-set.ensures.few, c.in_ok-orders.ensures.asked, c.rounds.invariant.few)) c.rounds.invariant.most;
+          (omega (arith, c.in_ok-set.ensures.asked, c.in_ok-set.ensures.few, c.each_left_out.ensures.asked, c.rounds.invariant.few)) c.rounds.invariant.most;
     }
 
 pub returns-in-Orders-clause-most : goal.returns-in-Orders-clause-most
 returns-in-Orders-clause-most g c =
     last_round _ _ _ _ (length c.args.blamed.rows.items)
-    (omega (arith, c.in_ok-set.ensures.asked, c.in_ok-set.ensures.few, c.in_ok-orders.ensures.asked, c.rounds.invariant.few)) c.rounds.invariant.most
+    (omega (arith, c.in_ok-set.ensures.asked, c.in_ok-set.ensures.few, c.each_left_out.ensures.asked, c.rounds.invariant.few)) c.rounds.invariant.most
 
 pub rounds-init : goal.rounds-init
 rounds-init g c = record {

@@ -92,3 +92,15 @@ returns-in_err-core-in-No-clause-any g c = let at = goal.at.returns-in_err-core-
 
 pub returns-in_ok-core-in-No-clause-any : goal.returns-in_ok-core-in-No-clause-any
 returns-in_ok-core-in-No-clause-any g c = let at = goal.at.returns-in_ok-core-in-No-clause-any g c in within g at.After-core_among (few g at.In_ok-blamed-in-No)
+
+-- the times that the judge was asked, with an answer and with an error
+times : (g : given.Over) (c : After-core_among g) → length c.in_ok-blamed-in-No.blamed.rows.items ≤ length c.args.m.now.rows → IsTrue g.J.Judge.in_turn → g.J.Judge.asked c.core_among.new.judge ≤ g.J.Judge.asked c.args.judge.now + (2 * length c.args.m.now.rows + 1)
+times g c few turn =
+    let rows = some_row c.args.m.now.columns c.args.m.now.rows (rw c.in-No.is at c.in_ok-tree.ensures.judged).1 in
+    omega (arith, rows_twice _ _ _ rows few c.in_ok-blamed-in-No.ensures.more.1, c.judged_short.ensures.asked, c.core_among.ensures.asked_any turn)
+
+pub returns-in_err-core-in-No-clause-asked_any : goal.returns-in_err-core-in-No-clause-asked_any
+returns-in_err-core-in-No-clause-asked_any g c = let at = goal.at.returns-in_err-core-in-No-clause-asked_any g c in times g at.After-core_among (few g at.In_ok-blamed-in-No)
+
+pub returns-in_ok-core-in-No-clause-asked_any : goal.returns-in_ok-core-in-No-clause-asked_any
+returns-in_ok-core-in-No-clause-asked_any g c = let at = goal.at.returns-in_ok-core-in-No-clause-asked_any g c in times g at.After-core_among (few g at.In_ok-blamed-in-No)
