@@ -1,6 +1,8 @@
 // A matrix as lines of digits, read in pieces.
-ghost use Rattle.std.specs.Prelude.{◌≡◌, ◌+◌, ◌≤◌, ℕ, List, ◌++◌, drop, length, IfOk};
+ghost use Rattle.std.specs.Prelude.{◌≡◌, ◌⊎◌, ◌+◌, ◌≤◌, ℕ, List, ◌++◌, drop, length, IsFalse, IfOk};
+ghost use Rattle.column_order.specs.Orders.{has};
 ghost use Rattle.row_model.specs.declared.TheConstants.{MAX_FILE_BYTES};
+ghost use Rattle.row_model.specs.declared.code.TheConstants.{LIMIT};
 ghost use Rattle.matrix_read.specs.Dense.{dense};
 
 use crate::digit_lines::{further, matrix_read};
@@ -40,7 +42,8 @@ impl DenseReader {
         }
     }
 
-    /// Takes some bytes, or none, at the front of what is left of the text, and tells how many.
+    /// Takes bytes at the front of what is left of the text, and tells how many: all whole lines that are there, unless
+    /// the text is past the limit of its length, and so refused whatever follows.
     ///
     /// # Errors
     ///
@@ -48,6 +51,8 @@ impl DenseReader {
     pub fn take(self, alloc: Global, text: &[u8]) -> Result<(Self, usize), NoMemory>
         ensures within { IfOk result (λ taken. taken.1 ≤ length text.now) }
         ensures rows { IfOk result (λ taken. (rest : List ℕ) → dense_with taken.0 (drop taken.1 text.now ++ rest) ≡ dense_with self (text.now ++ rest)) }
+        ensures whole { IfOk result (λ taken. IsFalse (has (drop taken.1 text.now) 10)
+            ⊎ ((rest : List ℕ) → dense_with self (text.now ++ rest) ≡ Read.Refused (record { code = LIMIT; line = 0 }))) }
     {
         if text.len() > MAX_FILE_BYTES as usize - self.taken {
             return Ok((self, 0));

@@ -1,5 +1,6 @@
 // A matrix as lines that name columns, read in pieces.
-ghost use Rattle.std.specs.Prelude.{◌≡◌, ◌+◌, ◌≤◌, ℕ, List, [], ◌++◌, drop, length, IfOk};
+ghost use Rattle.std.specs.Prelude.{◌≡◌, ◌+◌, ◌≤◌, ℕ, List, [], ◌++◌, drop, length, IsFalse, IfOk};
+ghost use Rattle.column_order.specs.Orders.{has};
 ghost use Rattle.row_model.specs.declared.TheConstants.{MAX_FILE_BYTES};
 ghost use Rattle.text_lines.specs.Lines.{lines_of};
 ghost use Rattle.text_lines.specs.Rows.{numbered_lines};
@@ -35,7 +36,7 @@ impl RowsReader {
         }
     }
 
-    /// Takes some bytes, or none, at the front of what is left of the text, and tells how many.
+    /// Takes bytes at the front of what is left of the text, and tells how many: all whole lines that are there.
     ///
     /// # Errors
     ///
@@ -43,6 +44,7 @@ impl RowsReader {
     pub fn take(self, alloc: Global, text: &[u8]) -> Result<(Self, usize), NoMemory>
         ensures within { IfOk result (λ taken. taken.1 ≤ length text.now) }
         ensures rows { IfOk result (λ taken. (rest : List ℕ) → rows_with taken.0 (drop taken.1 text.now ++ rest) ≡ rows_with self (text.now ++ rest)) }
+        ensures whole { IfOk result (λ taken. IsFalse (has (drop taken.1 text.now) 10)) }
     {
         let Some(len) = whole_len(text) else {
             return Ok((self, 0));
