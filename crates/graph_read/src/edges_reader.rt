@@ -1,7 +1,9 @@
 // The lists of neighbours of a text of edges that comes in pieces.
-ghost use Rattle.std.specs.Prelude.{◌≡◌, ◌+◌, ◌≤◌, ◌++◌, ℕ, List, length, drop, IfOk};
+ghost use Rattle.std.specs.Prelude.{◌≡◌, ◌⊎◌, ◌+◌, ◌≤◌, ◌++◌, ℕ, List, length, drop, IsFalse, IfOk};
+ghost use Rattle.column_order.specs.Orders.{has};
 ghost use Rattle.row_model.specs.Rows.{RowList};
 ghost use Rattle.row_model.specs.declared.TheConstants.{MAX_FILE_BYTES};
+ghost use Rattle.row_model.specs.declared.code.TheConstants.{LIMIT};
 ghost use Rattle.row_model.specs.Limits.{within_length};
 ghost use Rattle.text_lines.specs.FirstRefusal.{filled_of};
 ghost use Rattle.graph_model.specs.declared.TheConstants.{LEFT_BOUND};
@@ -42,7 +44,8 @@ impl EdgesReader {
         }
     }
 
-    /// Takes some bytes, or none, at the front of what is left of the text, and tells how many.
+    /// Takes bytes at the front of what is left of the text, and tells how many: all whole lines that are there, unless
+    /// the text is past the limit of its length, and so refused whatever follows.
     ///
     /// # Errors
     ///
@@ -50,6 +53,8 @@ impl EdgesReader {
     pub fn take(self, alloc: Global, text: &[u8]) -> Result<(Self, usize), NoMemory>
         ensures within { IfOk result (λ taken. taken.1 ≤ length text.now) }
         ensures lists { IfOk result (λ taken. (rest : List ℕ) → lists_with taken.0 (drop taken.1 text.now ++ rest) ≡ lists_with self (text.now ++ rest)) }
+        ensures whole { IfOk result (λ taken. IsFalse (has (drop taken.1 text.now) 10)
+            ⊎ ((rest : List ℕ) → lists_with self (text.now ++ rest) ≡ Read.Refused (record { code = LIMIT; line = 0 }))) }
         ensures heading { IfOk result (λ taken. taken.0.lines.heading ≡ self.lines.heading) }
     {
         if text.len() as u64 > self.room {

@@ -1,5 +1,7 @@
 // Readers of graphs and bipartite graphs over a text that comes in pieces.
-ghost use Rattle.std.specs.Prelude.{◌≡◌, ◌≤◌, ◌++◌, ℕ, List, drop, length, IfOk};
+ghost use Rattle.std.specs.Prelude.{◌≡◌, ◌⊎◌, ◌≤◌, ◌++◌, ℕ, List, drop, length, IsFalse, IfOk};
+ghost use Rattle.column_order.specs.Orders.{has};
+ghost use Rattle.row_model.specs.declared.code.TheConstants.{LIMIT};
 ghost use Rattle.graph_read.specs.declared.headings.Heading.{Heading};
 ghost use Rattle.graph_read.specs.Files.{bigraph, graph};
 
@@ -30,7 +32,8 @@ impl BigraphReader {
         }
     }
 
-    /// Takes some bytes, or none, at the front of what is left of the text, and tells how many.
+    /// Takes bytes at the front of what is left of the text, and tells how many: all whole lines that are there, unless
+    /// the text is past the limit of its length, and so refused whatever follows.
     ///
     /// # Errors
     ///
@@ -38,6 +41,8 @@ impl BigraphReader {
     pub fn take(self, alloc: Global, text: &[u8]) -> Result<(Self, usize), NoMemory>
         ensures within { IfOk result (λ taken. taken.1 ≤ length text.now) }
         ensures graph { IfOk result (λ taken. (rest : List ℕ) → bigraph_then taken.0 (drop taken.1 text.now ++ rest) ≡ bigraph_then self (text.now ++ rest)) }
+        ensures whole { IfOk result (λ taken. IsFalse (has (drop taken.1 text.now) 10)
+            ⊎ ((rest : List ℕ) → bigraph_then self (text.now ++ rest) ≡ Read.Refused (record { code = LIMIT; line = 0 }))) }
     {
         let (edges, taken) = self.edges.take(alloc, text)?;
         Ok((BigraphReader { edges }, taken))
@@ -79,7 +84,8 @@ impl GraphReader {
         }
     }
 
-    /// Takes some bytes, or none, at the front of what is left of the text, and tells how many.
+    /// Takes bytes at the front of what is left of the text, and tells how many: all whole lines that are there, unless
+    /// the text is past the limit of its length, and so refused whatever follows.
     ///
     /// # Errors
     ///
@@ -87,6 +93,8 @@ impl GraphReader {
     pub fn take(self, alloc: Global, text: &[u8]) -> Result<(Self, usize), NoMemory>
         ensures within { IfOk result (λ taken. taken.1 ≤ length text.now) }
         ensures graph { IfOk result (λ taken. (rest : List ℕ) → graph_then taken.0 (drop taken.1 text.now ++ rest) ≡ graph_then self (text.now ++ rest)) }
+        ensures whole { IfOk result (λ taken. IsFalse (has (drop taken.1 text.now) 10)
+            ⊎ ((rest : List ℕ) → graph_then self (text.now ++ rest) ≡ Read.Refused (record { code = LIMIT; line = 0 }))) }
     {
         let (edges, taken) = self.edges.take(alloc, text)?;
         Ok((GraphReader { edges }, taken))
