@@ -1,6 +1,8 @@
 // The instance in the bytes of a file that come in pieces.
-ghost use Rattle.std.specs.Prelude.{◌≡◌, ◌≤◌, ℕ, List, ◌++◌, drop, length, is_some, IfSome, IfOk};
+ghost use Rattle.std.specs.Prelude.{◌≡◌, ◌⊎◌, ◌≤◌, ℕ, List, ◌++◌, drop, length, is_some, IsFalse, IfSome, IfOk};
+ghost use Rattle.column_order.specs.Orders.{has};
 ghost use Rattle.row_model.specs.declared.TheConstants.{MAX_FILE_BYTES};
+ghost use Rattle.row_model.specs.declared.code.TheConstants.{LIMIT};
 ghost use Rattle.instance_model.specs.Value.{instance_value};
 ghost use Rattle.command_input.specs.Instances.{instance_of, map_read};
 ghost use Rattle.command_input.specs.InstancePieces.{instance_with, comes_in_pieces};
@@ -50,7 +52,8 @@ impl InstanceReader {
         }
     }
 
-    /// Takes some bytes, or none, at the front of what is left of the file, and tells how many.
+    /// Takes bytes at the front of what is left of the file, and tells how many: all whole lines that are there, unless
+    /// the file is past the limit of its length, and so refused whatever follows.
     ///
     /// # Errors
     ///
@@ -59,6 +62,8 @@ impl InstanceReader {
         ensures within { IfOk result (λ taken. taken.1 ≤ length text.now) }
         ensures value { IfOk result (λ taken. (rest : List ℕ)
             → instance_with taken.0 (drop taken.1 text.now ++ rest) ≡ instance_with self (text.now ++ rest)) }
+        ensures whole { IfOk result (λ taken. IsFalse (has (drop taken.1 text.now) 10)
+            ⊎ ((rest : List ℕ) → instance_with self (text.now ++ rest) ≡ Read.Refused (record { code = LIMIT; line = 0 }))) }
     {
         Ok(match self {
             Self::Matrix(dense) => taken_as(dense.take(alloc, text)?, Self::Matrix),
