@@ -35,10 +35,11 @@ pub enum Cored {
 ///
 /// Where it answers, and by the judge's own count, a judge that goes through the rows in turn was asked once at most if
 /// there is a valid order, and else at most twice for each row of the core and once more. Any other judge was asked at
-/// most (n + 1)(2n + 1) + 1 times, n being the number of rows. Where a judge that goes through the rows in turn tells its
-/// costs, and no larger matrix costs more, an answer takes at most the steps of as many judgements of this matrix. Where
-/// memory is refused, a judge that goes through the rows in turn was asked at most 2n + 1 times, and if it tells its costs
-/// so, the steps are at most those of as many judgements.
+/// most (n + 1)(2n + 1) + 1 times, n being the number of rows. Where memory is refused, a judge that goes through the rows
+/// in turn was asked at most 2n + 1 times.
+///
+/// Where such a judge says what an answer costs, and no smaller matrix costs more, the steps are at most those of as many
+/// judgements of this matrix.
 ///
 /// # Errors
 ///
