@@ -11,7 +11,7 @@ UNTICKED = {
     "walk_search": {"way_down": 2, "add_way_up": 1, "closed_walk": 2, "rows_by_column k": 1, "joined": 1, "simple_cycle": 1, "new": 1, "search": 3, "search_along": 2},
     "incompat_graph": {
         "walk_around": 3, "add_forth": 1, "add_back": 1, "columns_near": 2, "openers": 2, "is_odd_walk": 1, "odd_links": 4, "closed_at_once": 1,
-        "is_known": 1, "odd_circle": 4, "circle_by": 4, "first_left": 2, "place_among": 1, "spread": 5, "path_up": 1, "add_lines": 1, "settle": 4,
+        "is_known": 1, "odd_circle": 4, "circle_by": 4, "first_left": 2, "place_among": 1, "spread": 3, "path_up": 1, "add_lines": 1, "settle": 4,
         "lines_of": 1, "part_of": 2, "without_repeats": 4, "add_spread": 1, "checked_cycle": 1, "lines_in": 1, "any_cycle": 1, "quick_cycle": 1,
     },
 }

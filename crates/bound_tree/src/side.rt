@@ -9,7 +9,7 @@ use open_gaps::OpenGaps;
 use step_count::{Ledger, Steps};
 
 /// The side of an order from which its positions are counted.
-#[derive(Clone, Copy, Debug, PartialEq, Eq)]
+#[derive(Clone, Copy)]
 pub enum Side {
     /// Position 0 is the leftmost.
     Left,

@@ -1,4 +1,5 @@
 mod Orders
 mod Sums
 mod Nodes
+mod Rows
 pub mod Growth

@@ -6,7 +6,9 @@ use Rattle.std.proofs.lemmas.List.Sums.{sum_by_push, sum_by-take-le}
 use Rattle.row_model.specs.Graph.{row_at}
 use Rattle.pq_tree.specs.Outline.{Outline}
 use Rattle.pq_tree.specs.Amortised.{weight}
+use Rattle.pq_tree.specs.Proper.{universal}
 use Rattle.template_theory.specs.Frugal.{IsFrugal}
+use Rattle.template_theory.specs.WeightLaws.{UniversalWeightLaw}
 use Rattle.template_theory.specs.declared.reducer.Step.{Step}
 use Rattle.template_theory.specs.declared.reducer.Step.TheVariants.{Refused}
 use Rattle.c1p_solve.specs.Totals.{reduction_steps, search_steps}
@@ -52,3 +54,7 @@ first_steps c k rows h =
 -- what a frugal reducer takes for a row that it refuses
 pub refused_cost : (row : List ℕ) (t u : Outline) (s n : ℕ) (step : Step) → step ≡ Refused → IsFrugal row t u s n step → n ≤ s + 1024 * (1 + length row) + 256 * weight t
 refused_cost row t u s n step e h = subst (IsFrugal row t u s n) e h
+
+-- the tree of a new reducer weighs no more than the columns of the matrix
+pub weighs_little : (n c : ℕ) (t : Outline) → UniversalWeightLaw → n ≡ c → t ≡ universal n → weight t ≤ c
+weighs_little n c t light columns is = omega (arith, light n, ap weight is, columns)

@@ -1,5 +1,5 @@
 // The instance in the bytes of a file.
-ghost use Rattle.std.specs.Prelude.{◌≡◌, IfOk};
+ghost use Rattle.std.specs.Prelude.{◌≡◌, IfOk, IsOkAnd};
 ghost use Rattle.instance_model.specs.Instance.{plain, IsPlainKind};
 ghost use Rattle.instance_model.specs.Value.{instance_value};
 ghost use Rattle.command_input.specs.Instances.{instance_of, map_read, AreRead, IfRead, IsInstanceOf};
@@ -30,24 +30,28 @@ pub fn instance_in(alloc: Global, kind: Kind, bytes: &[u8]) -> Result<Read<Insta
 fn parsed(alloc: Global, kind: Kind, bytes: &[u8]) -> Result<Read<Instance>, NoMemory>
     ensures { IfOk result (λ made. map_read instance_value made ≡ instance_of kind bytes.now) }
 {
-    Ok(match kind {
-        Kind::Circular => map_read(read_dense(alloc, bytes)?, Instance::Circular),
-        Kind::Convex => map_read(read_bigraph(alloc, bytes, MAX_ROWS)?, Instance::Convex),
-        Kind::Doubly => map_read(read_bigraph(alloc, bytes, MAX_COLUMNS)?, Instance::Doubly),
-        Kind::Proper => map_read(read_graph(alloc, bytes)?, Instance::Proper),
-        Kind::Robinson => map_read(read_distances(alloc, bytes)?, Instance::Robinson),
-        _ => map_read(matrix_in(alloc, kind, bytes)?, |m| Instance::Plain(kind, m)),
-    })
+    match kind {
+        Kind::Circular => map_read(read_dense(alloc, bytes), Instance::Circular),
+        Kind::Convex => map_read(read_bigraph(alloc, bytes, MAX_ROWS), Instance::Convex),
+        Kind::Doubly => map_read(read_bigraph(alloc, bytes, MAX_COLUMNS), Instance::Doubly),
+        Kind::Proper => map_read(read_graph(alloc, bytes), Instance::Proper),
+        Kind::Robinson => map_read(read_distances(alloc, bytes), Instance::Robinson),
+        _ => map_read(matrix_in(alloc, kind, bytes), |m| Instance::Plain(kind, m)),
+    }
 }
 
-/// The instance of what was read, or the refusal.
-pub(crate) fn map_read<T, F: FnOnce(T) -> Instance>(read: Read<T>, instance: F) -> Read<Instance>
-    requires { IfRead read (λ value. F.pre instance value) }
-    ensures { AreRead (F.post instance) read result }
+/// The instance of what was read, the refusal of the file, or that of memory.
+pub(crate) fn map_read<T, F: FnOnce(T) -> Instance + Drop>(
+    read: Result<Read<T>, NoMemory>,
+    instance: F,
+) -> Result<Read<Instance>, NoMemory>
+    requires { IfOk read (λ one. IfRead one (λ value. F.pre instance value)) }
+    ensures { IfOk result (λ made. IsOkAnd read (λ one. AreRead (F.post instance) one made)) }
 {
     match read {
-        Read::Ok(value) => Read::Ok(instance(value)),
-        Read::Refused(refusal) => Read::Refused(refusal),
+        Ok(Read::Ok(value)) => Ok(Read::Ok(instance(value))),
+        Ok(Read::Refused(refusal)) => Ok(Read::Refused(refusal)),
+        Err(refused) => Err(refused),
     }
 }
 

@@ -1,5 +1,5 @@
 // The instance in the bytes of a file that come in pieces.
-ghost use Rattle.std.specs.Prelude.{◌≡◌, ◌⊎◌, ◌≤◌, ℕ, List, ◌++◌, drop, length, is_some, IsFalse, IfSome, IfOk};
+ghost use Rattle.std.specs.Prelude.{◌≡◌, ◌⊎◌, ◌≤◌, ℕ, List, ◌++◌, drop, length, is_some, IsFalse, IsOkAnd, IfSome, IfOk};
 ghost use Rattle.column_order.specs.Orders.{has};
 ghost use Rattle.row_model.specs.declared.TheConstants.{MAX_FILE_BYTES};
 ghost use Rattle.row_model.specs.declared.code.TheConstants.{LIMIT};
@@ -65,14 +65,14 @@ impl InstanceReader {
         ensures whole { IfOk result (λ taken. IsFalse (has (drop taken.1 text.now) 10)
             ⊎ ((rest : List ℕ) → instance_with self (text.now ++ rest) ≡ Read.Refused (record { code = LIMIT; line = 0 }))) }
     {
-        Ok(match self {
-            Self::Matrix(dense) => taken_as(dense.take(alloc, text)?, Self::Matrix),
-            Self::Circular(dense) => taken_as(dense.take(alloc, text)?, Self::Circular),
-            Self::Rows(rows) => taken_as(rows.take(alloc, text)?, Self::Rows),
-            Self::Convex(graph) => taken_as(graph.take(alloc, text)?, Self::Convex),
-            Self::Doubly(graph) => taken_as(graph.take(alloc, text)?, Self::Doubly),
-            Self::Proper(graph) => taken_as(graph.take(alloc, text)?, Self::Proper),
-        })
+        match self {
+            Self::Matrix(dense) => taken_as(dense.take(alloc, text), Self::Matrix),
+            Self::Circular(dense) => taken_as(dense.take(alloc, text), Self::Circular),
+            Self::Rows(rows) => taken_as(rows.take(alloc, text), Self::Rows),
+            Self::Convex(graph) => taken_as(graph.take(alloc, text), Self::Convex),
+            Self::Doubly(graph) => taken_as(graph.take(alloc, text), Self::Doubly),
+            Self::Proper(graph) => taken_as(graph.take(alloc, text), Self::Proper),
+        }
     }
 
     /// The instance of the file, or its first refusal, where these bytes are left of it.
@@ -83,34 +83,33 @@ impl InstanceReader {
     pub fn finish(self, alloc: Global, text: &[u8]) -> Result<Read<Instance>, NoMemory>
         ensures { IfOk result (λ made. map_read instance_value made ≡ instance_with self text.now) }
     {
-        Ok(match self {
-            InstanceReader::Matrix(dense) => map_read(dense.finish(alloc, text)?, |m| {
+        match self {
+            InstanceReader::Matrix(dense) => map_read(dense.finish(alloc, text), |m| {
                 Instance::Plain(Kind::Matrix, m)
             }),
             InstanceReader::Circular(dense) => {
-                map_read(dense.finish(alloc, text)?, Instance::Circular)
+                map_read(dense.finish(alloc, text), Instance::Circular)
             }
             InstanceReader::Rows(rows) => {
-                map_read(
-                    rows.finish(alloc, text)?,
-                    |m| Instance::Plain(Kind::Rows, m),
-                )
+                map_read(rows.finish(alloc, text), |m| Instance::Plain(Kind::Rows, m))
             }
-            InstanceReader::Convex(graph) => map_read(graph.finish(alloc, text)?, Instance::Convex),
-            InstanceReader::Doubly(graph) => map_read(graph.finish(alloc, text)?, Instance::Doubly),
-            InstanceReader::Proper(graph) => map_read(graph.finish(alloc, text)?, Instance::Proper),
-        })
+            InstanceReader::Convex(graph) => map_read(graph.finish(alloc, text), Instance::Convex),
+            InstanceReader::Doubly(graph) => map_read(graph.finish(alloc, text), Instance::Doubly),
+            InstanceReader::Proper(graph) => map_read(graph.finish(alloc, text), Instance::Proper),
+        }
     }
 }
 
-// A reader of one kind of file that took so many bytes, as one of instances.
-fn taken_as<R, F: FnOnce(R) -> InstanceReader>(
-    taken: (R, usize),
+// A reader of one kind of file that took so many bytes, as one of instances, or the refusal of memory.
+fn taken_as<R, F: FnOnce(R) -> InstanceReader + Drop>(
+    taken: Result<(R, usize), NoMemory>,
     reader: F,
-) -> (InstanceReader, usize)
-    requires { F.pre reader taken.0 }
-    ensures reader { F.post reader taken.0 result.0 }
-    ensures taken { result.1 ≡ taken.1 }
+) -> Result<(InstanceReader, usize), NoMemory>
+    requires { IfOk taken (λ one. F.pre reader one.0) }
+    ensures { IfOk result (λ made. IsOkAnd taken (λ one. F.post reader one.0 made.0 × (made.1 ≡ one.1))) }
 {
-    (reader(taken.0), taken.1)
+    match taken {
+        Ok((one, count)) => Ok((reader(one), count)),
+        Err(refused) => Err(refused),
+    }
 }

@@ -4,3 +4,4 @@ pub mod CoreJudgements
 pub mod Findings
 pub mod Meetings
 pub mod Passed
+pub mod Numbers

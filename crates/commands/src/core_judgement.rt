@@ -1,13 +1,13 @@
 // What a check of the text of a core finds.
-ghost use Rattle.std.specs.Prelude.{◌≡◌};
-ghost use Rattle.commands.specs.Faults.{fault_status};
+ghost use Rattle.std.specs.Prelude.{◌≡◌, ◌++◌};
+ghost use Rattle.commands.specs.Faults.{fault_status, fault_text};
 ghost use Rattle.commands.specs.CoreJudgements.{core_judgement_fault};
 
 use std::fmt;
 use verdict_check::CoreReason;
 
 /// What is found of the bytes of the text of a core.
-#[derive(Clone, Copy, Debug, PartialEq, Eq)]
+#[derive(Clone, Copy)]
 pub enum CoreJudgement {
     /// They are the text of a core that passes each test.
     Valid,
@@ -20,6 +20,8 @@ pub enum CoreJudgement {
 }
 
 impl CoreJudgement {
+    ghost use Rattle.commands.specs.Numbers.{number_text, core_judgement_number};
+
     /// The exit status: 0 for valid, 1 for invalid.
     pub fn status(&self) -> u8
         ensures { result ≡ fault_status (core_judgement_fault self.now) }
@@ -27,6 +29,41 @@ impl CoreJudgement {
         match self {
             CoreJudgement::Valid => 0,
             _ => 1,
+        }
+    }
+
+    // The words before the number.
+    fn words(&self) -> &'static str
+        ensures { fault_text (core_judgement_fault self.now) ≡ result.now ++ number_text (core_judgement_number self.now) }
+    {
+        match *self {
+            CoreJudgement::Valid => "valid",
+            CoreJudgement::TooLong => "invalid too-long",
+            CoreJudgement::NoCore => "invalid text",
+            CoreJudgement::Fails(CoreReason::Kind) => "invalid kind",
+            CoreJudgement::Fails(CoreReason::Columns) => "invalid columns",
+            CoreJudgement::Fails(CoreReason::Rows) => "invalid rows",
+            CoreJudgement::Fails(CoreReason::Order(_)) => "invalid order",
+            CoreJudgement::Fails(CoreReason::Length(_)) => "invalid length",
+            CoreJudgement::Fails(CoreReason::Pair(_)) => "invalid pair",
+            CoreJudgement::Fails(CoreReason::Repeat(_)) => "invalid repeat",
+            CoreJudgement::Fails(CoreReason::Join(_)) => "invalid join",
+        }
+    }
+
+    // The number behind the words, if there is one.
+    fn number(&self) -> Option<u32>
+        ensures { result ≡ core_judgement_number self.now }
+    {
+        match *self {
+            CoreJudgement::Fails(
+                CoreReason::Order(n)
+                | CoreReason::Length(n)
+                | CoreReason::Pair(n)
+                | CoreReason::Repeat(n)
+                | CoreReason::Join(n),
+            ) => Some(n),
+            _ => None,
         }
     }
 }
@@ -39,18 +76,10 @@ impl fmt::Display for CoreJudgement {
     ghost output = { λ judgement. Some (fault_text (core_judgement_fault judgement)) };
 
     fn fmt<W: fmt::Write>(&self, f: &mut fmt::Formatter<W>) -> fmt::Result {
-        match *self {
-            CoreJudgement::Valid => f.write_str("valid"),
-            CoreJudgement::TooLong => f.write_str("invalid too-long"),
-            CoreJudgement::NoCore => f.write_str("invalid text"),
-            CoreJudgement::Fails(CoreReason::Kind) => f.write_str("invalid kind"),
-            CoreJudgement::Fails(CoreReason::Columns) => f.write_str("invalid columns"),
-            CoreJudgement::Fails(CoreReason::Rows) => f.write_str("invalid rows"),
-            CoreJudgement::Fails(CoreReason::Order(row)) => write!(f, "invalid order {row}"),
-            CoreJudgement::Fails(CoreReason::Length(count)) => write!(f, "invalid length {count}"),
-            CoreJudgement::Fails(CoreReason::Pair(line)) => write!(f, "invalid pair {line}"),
-            CoreJudgement::Fails(CoreReason::Repeat(line)) => write!(f, "invalid repeat {line}"),
-            CoreJudgement::Fails(CoreReason::Join(line)) => write!(f, "invalid join {line}"),
+        let words = self.words();
+        match self.number() {
+            None => f.write_str(words),
+            Some(n) => write!(f, "{words} {n}"),
         }
     }
 }

@@ -6,7 +6,7 @@ ghost use Rattle.commands.specs.Findings.{finding_fault};
 use std::fmt;
 
 /// What is found of the bytes of a unit model.
-#[derive(Clone, Copy, Debug, PartialEq, Eq)]
+#[derive(Clone, Copy)]
 pub enum Finding {
     /// They are the text of a unit model of the graph.
     Valid,

@@ -1,13 +1,13 @@
 // What a check finds.
-ghost use Rattle.std.specs.Prelude.{◌≡◌};
-ghost use Rattle.commands.specs.Faults.{fault_status};
+ghost use Rattle.std.specs.Prelude.{◌≡◌, ◌++◌};
+ghost use Rattle.commands.specs.Faults.{fault_status, fault_text};
 ghost use Rattle.commands.specs.Judgements.{judgement_fault};
 
 use std::fmt;
 use verdict_check::Reason;
 
 /// What is found of the bytes of a verdict.
-#[derive(Clone, Copy, Debug, PartialEq, Eq)]
+#[derive(Clone, Copy)]
 pub enum Judgement {
     /// They are the text of a verdict that passes each test.
     Valid,
@@ -19,7 +19,17 @@ pub enum Judgement {
     Fails(Reason),
 }
 
+// The numbers behind the words of a judgement, each after a space.
+#[derive(Clone, Copy)]
+enum Numbers {
+    Absent,
+    One(u32),
+    Two(u32, u32),
+}
+
 impl Judgement {
+    ghost use Rattle.commands.specs.Numbers.{numbers_text, judgement_numbers};
+
     /// The exit status: 0 for valid, 1 for invalid.
     pub fn status(&self) -> u8
         ensures { result ≡ fault_status (judgement_fault self.now) }
@@ -27,6 +37,45 @@ impl Judgement {
         match self {
             Judgement::Valid => 0,
             _ => 1,
+        }
+    }
+
+    // The words before the numbers.
+    fn words(&self) -> &'static str
+        ensures { fault_text (judgement_fault self.now) ≡ result.now ++ numbers_text (judgement_numbers self.now) }
+    {
+        match *self {
+            Judgement::Valid => "valid",
+            Judgement::TooLong => "invalid too-long",
+            Judgement::NoVerdict => "invalid text",
+            Judgement::Fails(Reason::Kind) => "invalid kind",
+            Judgement::Fails(Reason::Columns) => "invalid columns",
+            Judgement::Fails(Reason::Order(_)) => "invalid order",
+            Judgement::Fails(Reason::Tree(_, _)) => "invalid tree",
+            Judgement::Fails(Reason::Complete(_)) => "invalid complete",
+            Judgement::Fails(Reason::Intervals) => "invalid intervals",
+            Judgement::Fails(Reason::Places) => "invalid places",
+            Judgement::Fails(Reason::Contigs) => "invalid contigs",
+            Judgement::Fails(Reason::Length(_)) => "invalid length",
+            Judgement::Fails(Reason::Pair(_)) => "invalid pair",
+            Judgement::Fails(Reason::Repeat(_)) => "invalid repeat",
+            Judgement::Fails(Reason::Join(_)) => "invalid join",
+        }
+    }
+
+    // The numbers behind the words.
+    fn numbers(&self) -> Numbers
+        ensures { result ≡ judgement_numbers self.now }
+    {
+        match *self {
+            Judgement::Fails(Reason::Order(side) | Reason::Complete(side)) => {
+                Numbers::One(u32::from(side))
+            }
+            Judgement::Fails(Reason::Tree(side, row)) => Numbers::Two(u32::from(side), row),
+            Judgement::Fails(
+                Reason::Length(n) | Reason::Pair(n) | Reason::Repeat(n) | Reason::Join(n),
+            ) => Numbers::One(n),
+            _ => Numbers::Absent,
         }
     }
 }
@@ -39,22 +88,11 @@ impl fmt::Display for Judgement {
     ghost output = { λ judgement. Some (fault_text (judgement_fault judgement)) };
 
     fn fmt<W: fmt::Write>(&self, f: &mut fmt::Formatter<W>) -> fmt::Result {
-        match *self {
-            Judgement::Valid => f.write_str("valid"),
-            Judgement::TooLong => f.write_str("invalid too-long"),
-            Judgement::NoVerdict => f.write_str("invalid text"),
-            Judgement::Fails(Reason::Kind) => f.write_str("invalid kind"),
-            Judgement::Fails(Reason::Columns) => f.write_str("invalid columns"),
-            Judgement::Fails(Reason::Order(side)) => write!(f, "invalid order {side}"),
-            Judgement::Fails(Reason::Tree(side, row)) => write!(f, "invalid tree {side} {row}"),
-            Judgement::Fails(Reason::Complete(side)) => write!(f, "invalid complete {side}"),
-            Judgement::Fails(Reason::Intervals) => f.write_str("invalid intervals"),
-            Judgement::Fails(Reason::Places) => f.write_str("invalid places"),
-            Judgement::Fails(Reason::Contigs) => f.write_str("invalid contigs"),
-            Judgement::Fails(Reason::Length(count)) => write!(f, "invalid length {count}"),
-            Judgement::Fails(Reason::Pair(line)) => write!(f, "invalid pair {line}"),
-            Judgement::Fails(Reason::Repeat(line)) => write!(f, "invalid repeat {line}"),
-            Judgement::Fails(Reason::Join(line)) => write!(f, "invalid join {line}"),
+        let words = self.words();
+        match self.numbers() {
+            Numbers::Absent => f.write_str(words),
+            Numbers::One(n) => write!(f, "{words} {n}"),
+            Numbers::Two(n, m) => write!(f, "{words} {n} {m}"),
         }
     }
 }

@@ -15,7 +15,7 @@ use Rattle.core_text.specs.Texts.{TextValue, IsEntry, IsInGrammar, entries, entr
 use Rattle.text_parts.specs.Grammar.{IsLine}
 use Rattle.text_parts.specs.Text.{kind_word, cycle_line, counted_text, number_word}
 use Rattle.text_parts.specs.Reading.{all_kinds, kind_at, kind_from, column_count_at, counted_at, line_at}
-use Rattle.core_text.specs.Reading.{entry_at, entry_row, entry_order, text_value, core_of}
+use Rattle.core_text.specs.Reading.{entry_at, entry_row, entry_order, text_value, parts_of, core_of}
 use Rattle.text_parts.proofs.KindLaws.{kind_takes, kind_again}
 use Rattle.text_parts.proofs.Chains.{after_word, at_word}
 use Rattle.text_parts.proofs.NumberedLaws.{listed_take, listed_again}
@@ -57,7 +57,7 @@ zipped kind columns rows orders lines e =
     ∙ ap (λ (os : List (List ℕ)). record { kind = kind; columns = columns; parts = record { rows = rows; orders = os; lines = lines } }) (orders_of_zip rows orders e)
 
 pub core_takes : (bytes : List ℕ) (t : TextValue) → core_of bytes ≡ Some t → IsInGrammar t × (bytes ≡ core_text t)
-unfolding core_of core_text kind_at
+unfolding core_of parts_of core_text kind_at
 core_takes bytes t h =
     let a = after_word _ (codes "pq-core 1\nkind ") bytes t h in
     option_and_then_some _ (kind_from all_kinds a.0) t a.2 (λ x e k.
@@ -92,7 +92,7 @@ core_takes bytes t h =
     ]))))
 
 pub core_again : (t : TextValue) → IsInGrammar t → core_of (core_text t) ≡ Some t
-unfolding core_of core_text kind_at
+unfolding core_of parts_of core_text kind_at
 core_again t h =
     let parts : CoreParts = t.parts in
     let last : List ℕ = codes "end\n" in
@@ -107,14 +107,19 @@ core_again t h =
     ∙ at_word _ (codes "end\n") []
     ∙ ap Some (zipped t.kind t.columns parts.rows parts.orders parts.lines h.each)
 
--- the parts that a chain of readers read
-pub chain : (bytes a : List ℕ) (k : Kind) (b d : List ℕ) (n : ℕ) (e : List ℕ) (es : List (ℕ × List ℕ)) (f : List ℕ) (ls : List Line) (g h : List ℕ)
+-- the kind and the number of columns that a chain of readers read
+pub head_chain : (bytes a : List ℕ) (k : Kind) (b d : List ℕ) (n : ℕ) (e : List ℕ)
     → word_at (codes "pq-core 1\nkind ") bytes ≡ Some a → kind_at a ≡ Some (k, b) → word_at (codes "\ncolumns") b ≡ Some d → column_count_at d ≡ Some (n, e)
-    → counted_at (codes "\ncore ") entry_at e ≡ Some (es, f) → counted_at (codes "cycle ") line_at f ≡ Some (ls, g) → word_at (codes "end\n") g ≡ Some h
-    → core_of bytes ≡ cond (eqb (length h) 0) (Some (text_value k n es ls)) None
+    → core_of bytes ≡ parts_of k n e
 unfolding core_of
-chain bytes a k b d n e es f ls g h p q r s t u v =
-    ap (option_and_then _) p ∙ ap (option_and_then _) q ∙ ap (option_and_then _) r ∙ ap (option_and_then _) s ∙ ap (option_and_then _) t ∙ ap (option_and_then _) u ∙ ap (option_and_then _) v
+head_chain bytes a k b d n e p q r s = ap (option_and_then _) p ∙ ap (option_and_then _) q ∙ ap (option_and_then _) r ∙ ap (option_and_then _) s
+
+-- the parts that it reads from there on
+pub parts_chain : (k : Kind) (n : ℕ) (e : List ℕ) (es : List (ℕ × List ℕ)) (f : List ℕ) (ls : List Line) (g h : List ℕ)
+    → counted_at (codes "\ncore ") entry_at e ≡ Some (es, f) → counted_at (codes "cycle ") line_at f ≡ Some (ls, g) → word_at (codes "end\n") g ≡ Some h
+    → parts_of k n e ≡ cond (eqb (length h) 0) (Some (text_value k n es ls)) None
+unfolding parts_of
+parts_chain k n e es f ls g h t u v = ap (option_and_then _) t ∙ ap (option_and_then _) u ∙ ap (option_and_then _) v
 
 -- one row with its order more
 pub zip_pushed : (rows rows' : List ℕ) (orders orders' : List (List ℕ)) (k : ℕ) (o : List ℕ) → rows' ≡ rows ++ k ∷ [] → orders' ≡ orders ++ o ∷ [] → length orders ≡ length rows

@@ -30,6 +30,14 @@ entry_order entry = entry.1
 abbrev pub text_value : Kind → ℕ → List (ℕ × List ℕ) → List Line → TextValue
 text_value kind columns entries lines = record { kind = kind; columns = columns; parts = record { rows = map entry_row entries; orders = map entry_order entries; lines = lines } }
 
+-- the rows with their orders and the lines of a cycle, up to the end of the bytes, for a kind and a number of columns
+unfoldable pub parts_of : Kind → ℕ → List ℕ → Option TextValue
+parts_of kind columns bytes = do
+  entries ← counted_at (codes "\ncore ") entry_at bytes
+  lines ← counted_at (codes "cycle ") line_at entries.1
+  rest ← word_at (codes "end\n") lines.1
+  if length rest == 0 then Some (text_value kind columns entries.0 lines.0) else None
+
 -- what all of the bytes are the text of
 unfoldable pub core_of : List ℕ → Option TextValue
 core_of bytes = do
@@ -37,7 +45,4 @@ core_of bytes = do
   kind ← kind_at first
   next ← word_at (codes "\ncolumns") kind.1
   columns ← column_count_at next
-  entries ← counted_at (codes "\ncore ") entry_at columns.1
-  lines ← counted_at (codes "cycle ") line_at entries.1
-  rest ← word_at (codes "end\n") lines.1
-  if length rest == 0 then Some (text_value kind.0 columns.0 entries.0 lines.0) else None
+  parts_of kind.0 columns.0 columns.1

@@ -4,12 +4,12 @@ ghost use Rattle.text_parts.specs.Numbered.{numbered_at};
 ghost use Rattle.text_parts.specs.Reading.{counted_at};
 ghost use Rattle.text_parts.specs.Seen.{Gives};
 ghost use Rattle.core_text.specs.Texts.{TextValue, IsInGrammar, core_text};
-ghost use Rattle.core_text.specs.Reading.{entry_at, core_of};
+ghost use Rattle.core_text.specs.Reading.{entry_at, parts_of, core_of};
 ghost use Rattle.core_text.specs.Seen.{entry_seen, entries_seen};
 
 use crate::orders::Orders;
 use crate::text::CoreText;
-use row_model::NoMemory;
+use row_model::{Kind, NoMemory};
 use std::alloc::Global;
 use text_parts::{
     Stop, after, read_column_count, read_cycle, read_kind, read_number, read_numbers, room,
@@ -53,7 +53,15 @@ fn read_core(alloc: Global, bytes: &[u8]) -> Result<CoreText, Stop>
     let (kind, rest) = read_kind(rest)?;
     let rest = after(rest, b"\ncolumns")?;
     let (columns, rest) = read_column_count(rest)?;
-    let (entries, rest) = read_entries(alloc, rest)?;
+    read_parts(alloc, kind, columns, rest)
+}
+
+// The rows with their orders and the lines of the cycle, which end the bytes.
+#[tactic(auto, unfolding(crate::specs::Reading::parts_of))]
+fn read_parts(alloc: Global, kind: Kind, columns: u32, bytes: &[u8]) -> Result<CoreText, Stop>
+    ensures { Gives (λ t. t) result (parts_of kind columns bytes.now) }
+{
+    let (entries, rest) = read_entries(alloc, bytes)?;
     let (lines, rest) = read_cycle(alloc, b"cycle ", rest)?;
     let rest = after(rest, b"end\n")?;
     if !rest.is_empty() {

@@ -11,7 +11,7 @@ use step_count::{Ledger, Steps};
 const MOST_PIVOTS: usize = 32;
 
 /// Two pairs from which the ways end at one pair.
-#[derive(Clone, Copy, Debug, PartialEq, Eq)]
+#[derive(Clone, Copy)]
 pub struct Link {
     /// The one pair.
     pub one: Pair,
@@ -30,7 +30,7 @@ impl Link {
 }
 
 // Where the way from a column that the row has and a pivot, a column that it lacks, begins and ends.
-#[derive(Clone, Copy, Debug, PartialEq, Eq)]
+#[derive(Clone, Copy)]
 struct Course {
     pivot: u32,
     begin: Pair,
@@ -39,7 +39,7 @@ struct Course {
 }
 
 // A pivot that is reached from another by a link.
-#[derive(Clone, Copy, Debug, PartialEq, Eq)]
+#[derive(Clone, Copy)]
 struct Reached {
     pivot: u32,
     odd: bool,
@@ -48,7 +48,7 @@ struct Reached {
 }
 
 // A link between two pivots that are reached, by which an odd circle closes.
-#[derive(Clone, Copy, Debug, PartialEq, Eq)]
+#[derive(Clone, Copy)]
 struct OddLink {
     link: Link,
     one: usize,
@@ -140,8 +140,12 @@ fn closed_at_once(ways: &[Course], way: Course) -> Option<Link>
 fn is_known(ways: &[Course], way: Course) -> bool
     requires few { length ways.now ≤ 1024 }
 {
-    ways.iter()
-        .any(|other| other.pivot == way.pivot && other.end == way.end)
+    for other in ways {
+        if other.pivot == way.pivot && other.end == way.end {
+            return true;
+        }
+    }
+    false
 }
 
 // Reaches each pivot from another by links, as far as they go, and gives the links that close an odd circle if there is
@@ -181,10 +185,12 @@ fn circle_by(alloc: Global, reached: &[Reached], odd: OddLink) -> Result<Vec<Lin
 
 // The first pivot that is not reached.
 fn first_left(pivots: &[u32], reached: &[Reached]) -> Option<u32> {
-    pivots
-        .iter()
-        .copied()
-        .find(|pivot| place_among(reached, *pivot).is_none())
+    for pivot in pivots {
+        if place_among(reached, *pivot).is_none() {
+            return Some(*pivot);
+        }
+    }
+    None
 }
 
 // Where a pivot stands among those that are reached.
@@ -208,34 +214,62 @@ fn spread(
     let Some(here) = reached.get(head).copied() else {
         return Ok(None);
     };
-    for way in ways.iter().filter(|way| way.pivot == here.pivot) {
-        for other in ways.iter().filter(|other| other.end == way.end) {
-            let next = Reached {
-                pivot: other.pivot,
-                odd: here.odd != (way.turned != other.turned),
-                parent: head,
-                link: Link {
-                    one: way.begin,
-                    other: other.begin,
-                },
-            };
-            match place_among(reached, next.pivot) {
-                None if reached.len() < MOST_PIVOTS => reached.push(next)?,
-                Some(there)
-                    if reached
-                        .get(there)
-                        .is_some_and(|found| found.odd != next.odd) => {
-                    return Ok(Some(OddLink {
-                        link: next.link,
-                        one: head,
-                        other: there,
-                    }));
+    for way in ways {
+        if way.pivot != here.pivot {
+            continue;
+        }
+        for other in ways {
+            if other.end == way.end {
+                let next = Reached {
+                    pivot: other.pivot,
+                    odd: here.odd != (way.turned != other.turned),
+                    parent: head,
+                    link: Link {
+                        one: way.begin,
+                        other: other.begin,
+                    },
+                };
+                let place = place_among(reached, next.pivot);
+                if let Some(odd) = reach(reached, next, place)? {
+                    return Ok(Some(odd));
                 }
-                _ => {}
             }
         }
     }
     Ok(None)
+}
+
+// Adds a pivot that stands at no place among those that are reached. The answer is the link by which one that stands
+// there is reached, if an odd circle closes by it.
+fn reach(
+    reached: &mut Vec<Reached>,
+    next: Reached,
+    place: Option<usize>,
+) -> Result<Option<OddLink>, NoMemory>
+    requires few { (length reached.old.items ≤ 32) × (next.parent < 32) }
+    requires place { IfSome place (λ there. there < length reached.old.items) }
+    ensures few { length reached.new.items ≤ 32 }
+    ensures within { IfOk result (λ odd. IfSome odd (λ link. (link.one < 32) × (link.other < 32))) }
+{
+    match place {
+        None => {
+            if reached.len() < MOST_PIVOTS {
+                reached.push(next)?;
+            }
+            Ok(None)
+        }
+        Some(there) => {
+            if reached[there].odd == next.odd {
+                Ok(None)
+            } else {
+                Ok(Some(OddLink {
+                    link: next.link,
+                    one: next.parent,
+                    other: there,
+                }))
+            }
+        }
+    }
 }
 
 // The links by which a pivot was reached, from the last to the first.

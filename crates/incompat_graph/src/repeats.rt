@@ -54,7 +54,10 @@ fn place_on(path: &[Line], place: usize, v: Pair) -> usize
 
 // Whether the path has the pair turned at this place.
 fn stands_turned(path: &[Line], place: usize, v: Pair) -> bool {
-    path.get(place).is_some_and(|line| line.pair != v)
+    match path.get(place) {
+        Some(line) => line.pair != v,
+        None => false,
+    }
 }
 
 // The path, with a flip from its end where that is its first pair turned.

@@ -1,5 +1,5 @@
 // A shorter odd cycle among the rows and columns that a cycle meets.
-ghost use Rattle.std.specs.Prelude.{◌+◌, ◌≤◌, length, take, IfOk, IfSome};
+ghost use Rattle.std.specs.Prelude.{◌≡◌, ◌⊎◌, ◌+◌, ◌≤◌, Some, length, take, IfOk, IfSome};
 ghost use Rattle.row_model.specs.Cycles.{IsOddCycle};
 ghost use Rattle.odd_cycle.specs.Short.{IsShort};
 
@@ -41,9 +41,18 @@ pub fn shorter_cycle<L: Ledger>(
     if cycle.lines().len() > FEW_LINES {
         return Ok(cycle);
     }
-    match cycle_among(alloc, m, rows, cycle.lines(), most, steps)? {
-        Some(found) if found.lines().len() < cycle.lines().len() => Ok(found),
-        _ => Ok(cycle),
+    let found = cycle_among(alloc, m, rows, cycle.lines(), most, steps)?;
+    Ok(shorter_of(cycle, found))
+}
+
+// The cycle that was found, if there is one with fewer lines than this one, and else this one.
+fn shorter_of(cycle: Cycle, found: Option<Cycle>) -> Cycle
+    ensures which { (result ≡ cycle) ⊎ (found ≡ Some result) }
+    ensures length { length result ≤ length cycle }
+{
+    match found {
+        Some(found) if found.lines().len() < cycle.lines().len() => found,
+        _ => cycle,
     }
 }
 

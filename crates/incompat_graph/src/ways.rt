@@ -19,7 +19,7 @@ pub struct Front<'a> {
 }
 
 /// A pair on a way, and the row by which the way comes to it.
-#[derive(Clone, Copy, Debug, PartialEq, Eq)]
+#[derive(Clone, Copy)]
 pub struct Halt {
     /// The pair.
     pub pair: Pair,
@@ -28,7 +28,7 @@ pub struct Halt {
 }
 
 // The columns of a row that stand first and last in the order.
-#[derive(Clone, Copy, Debug, PartialEq, Eq)]
+#[derive(Clone, Copy)]
 struct Ends {
     first: u32,
     last: u32,
@@ -100,24 +100,24 @@ fn next_halt<L: Ledger>(
     if !is_pair(front.m.columns(), v) {
         return None;
     }
-    if let Some(line) = front.gaps.before(v) {
-        let row = row_of(line)?;
-        let ends = ends_of(front, row, left, steps)?;
-        let pair = Pair {
-            a: ends.first,
-            b: v.b,
-        };
-        return Some(Halt {
-            pair,
-            row: Some(row),
-        });
-    }
-    let line = front.gaps.behind(Pair { a: v.b, b: v.a })?;
+    let before = front.gaps.before(v);
+    let is_first = before.is_some();
+    let line = match before {
+        Some(line) => line,
+        None => front.gaps.behind(Pair { a: v.b, b: v.a })?,
+    };
     let row = row_of(line)?;
     let ends = ends_of(front, row, left, steps)?;
-    let pair = Pair {
-        a: v.a,
-        b: ends.last,
+    let pair = if is_first {
+        Pair {
+            a: ends.first,
+            b: v.b,
+        }
+    } else {
+        Pair {
+            a: v.a,
+            b: ends.last,
+        }
     };
     Some(Halt {
         pair,

@@ -147,9 +147,6 @@ module _ (k : List ℕ) (d : Data) (ms : Members) where
   clones_kept h = ap (λ o. option_map clone_names (option_and_then as_array o)) (found_before (codes "clones") h)
 
 -- `probes` is not `clones`
-pub not_clones : (k : List ℕ) → bytes_eq k (codes "probes") ≡ true → bytes_eq k (codes "clones") ≡ false
-not_clones k h = ap (λ key. bytes_eq key (codes "clones")) (is_key k (codes "probes") h)
-
 pub not_probes : (k : List ℕ) → bytes_eq k (codes "clones") ≡ true → bytes_eq k (codes "probes") ≡ false
 not_probes k h = ap (λ key. bytes_eq key (codes "probes")) (is_key k (codes "clones") h)
 

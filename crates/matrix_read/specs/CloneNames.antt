@@ -1,9 +1,10 @@
 -- What a clone file names: the probes, and the probes of each clone. All else of its value is passed over.
-use Rattle.std.specs.Prelude.{ℕ, ◌+◌, List, [], ◌∷◌, ◌++◌, map, length, codes, Option, Some, None, option_map, option_and_then, unwrap_or}
+use Rattle.std.specs.Prelude.{◌≡◌, ℕ, ◌+◌, List, [], ◌∷◌, ◌++◌, map, length, codes, Option, Some, None, option_map, option_and_then, unwrap_or}
 use Rattle.std.specs.Borrow.{Bor}
 use Rattle.std.specs.declared.vec.Vec.{Vec}
 use Rattle.std.specs.declared.alloc.Global.{Global}
-use Rattle.serde_json.specs.Data.{Data, object, Items, no_items, item, Members}
+use Rattle.json.specs.Token.{Token}
+use Rattle.serde_json.specs.Data.{Data, object, Items, no_items, item, Members, put}
 use Rattle.serde_json.specs.Find.{as_array}
 use Rattle.row_model.specs.Rows.{RowList}
 use Rattle.row_model.specs.declared.refusal.Refusal.{Refusal}
@@ -14,6 +15,7 @@ use Rattle.matrix_read.specs.declared.clone_names.CloneNames.{CloneNames}
 use Rattle.matrix_read.specs.Names.{bytes_of}
 use Rattle.text_lines.specs.Rows.{refusal_or, refused_or}
 use Rattle.matrix_read.specs.Clones.{names_code, head_code}
+use Rattle.matrix_read.specs.JsonSteps.{value_at}
 use Rattle.matrix_read.specs.CloneSteps.{strings_of, array_at, probes_of, names_row, unless_refused}
 
 -- the strings of an array of strings; another value has none
@@ -88,3 +90,14 @@ list_view clones = option_map (λ (list : Vec (Option (Vec (Bor (List ℕ)) Glob
 -- what a file names, by its bytes
 abbrev pub file_view : CloneNames → Option (List (List ℕ)) × Option (List (Option (List (List ℕ))))
 file_view file = (names_view file.probes, list_view file.clones)
+
+-- the names that a file may have
+abbrev pub NamesValue : Type 0
+NamesValue = Option (List (List ℕ)) × Option (List (Option (List (List ℕ))))
+
+-- The value at the front is that of a member with this key, and these tokens stand behind it. Put to members that name
+-- what was named before, it makes members that name what is named after.
+pub record IsMember {N : Type 0} (named : Members → N) (depth : ℕ) (key : List ℕ) (tokens rest : List Token) (before after : N) : Type 0 where
+  pub value : Data
+  pub is : value_at depth tokens ≡ Some (value, rest)
+  pub names : (found : Members) → named found ≡ before → named (put key value found) ≡ after

@@ -7,7 +7,7 @@ ghost use Rattle.serde_json.specs.Data.{array, object, no_members};
 ghost use Rattle.matrix_read.specs.Clones.{reading};
 ghost use Rattle.matrix_read.specs.CloneSteps.{strings_of, probes_of};
 ghost use Rattle.matrix_read.specs.JsonSteps.{value_at, items_at, members_at, string_in, opens_array, opens_object, IsNoArray, IsNoObject};
-ghost use Rattle.matrix_read.specs.CloneNames.{array_strings, member_probes, clone_names, array_clones, file_names, member_names, with_string, names_view, clones_view, list_view, file_view};
+ghost use Rattle.matrix_read.specs.CloneNames.{array_strings, member_probes, clone_names, array_clones, file_names, member_names, with_string, names_view, clones_view, list_view, file_view, IsMember};
 
 use crate::passing::{pass, pass_value};
 use json::{Invalid, Reader, Scratch, Token};
@@ -18,12 +18,21 @@ use std::alloc::{AllocFailed, Global};
 const MAX_DEPTH: usize = 127;
 
 /// What a clone file names.
-#[derive(Drop)]
 pub(crate) struct CloneNames<'a> {
     /// The strings under `probes`; none where there is no array of strings.
     pub probes: Option<Vec<&'a str>>,
     /// Of each of `clones` the strings under `probes`; none where there is no array.
     pub clones: Option<Vec<Option<Vec<&'a str>>>>,
+}
+
+// By hand, so that a place where names are dropped proves one call and does not take their lists apart.
+impl<'a> Drop for CloneNames<'a> {
+    fn drop(self) {
+        let CloneNames {
+            probes: _probes,
+            clones: _clones,
+        } = self;
+    }
 }
 
 // Why no names are read.
@@ -122,18 +131,56 @@ fn read_members<'a>(
     ensures ok { IfOk result (λ names. parse_map member_names (members_at depth (length reader.old) no_members reader.old) ≡ Some (file_view names, reader.new)) }
     ensures err { result ≡ Err NoNames.NotJson → members_at depth (length reader.old) no_members reader.old ≡ None }
 {
-    let mut probes = None;
-    let mut clones = None;
+    let mut names = CloneNames {
+        probes: None,
+        clones: None,
+    };
     while let Some(key) = reader.next_key()? {
-        if key == "probes" {
-            probes = read_names(alloc, reader, depth)?;
-        } else if key == "clones" {
-            clones = read_clones(alloc, reader, depth)?;
-        } else {
-            pass(reader, depth)?;
-        }
+        read_member(alloc, reader, depth, key, &mut names)?;
     }
-    Ok(CloneNames { probes, clones })
+    Ok(names)
+}
+
+// Reads the value of a member with this key, and keeps what it names.
+fn read_member<'a>(
+    alloc: Global,
+    reader: &mut Reader<'a>,
+    depth: usize,
+    key: &str,
+    names: &mut CloneNames<'a>,
+) -> Result<(), NoNames>
+    requires { 3 ≤ depth }
+    ensures ok { OnOk result (IsMember member_names depth key.now reader.old reader.new (file_view names.old) (file_view names.new)) }
+    ensures shorter { OnOk result (length reader.new < length reader.old) }
+    ensures err { result ≡ Err NoNames.NotJson → value_at depth reader.old ≡ None }
+{
+    if key == "clones" {
+        names.clones = read_clones(alloc, reader, depth)?;
+        return Ok(());
+    }
+    read_probes_at(alloc, reader, depth, key, &mut names.probes)?;
+    Ok(())
+}
+
+// Reads the value of a member with this key. That under `probes` is kept, and any other is passed over.
+fn read_probes_at<'a>(
+    alloc: Global,
+    reader: &mut Reader<'a>,
+    depth: usize,
+    key: &str,
+    probes: &mut Option<Vec<&'a str>>,
+) -> Result<(), NoNames>
+    requires { 1 ≤ depth }
+    ensures ok { OnOk result (IsMember member_probes depth key.now reader.old reader.new (names_view probes.old) (names_view probes.new)) }
+    ensures shorter { OnOk result (length reader.new < length reader.old) }
+    ensures err { result ≡ Err NoNames.NotJson → value_at depth reader.old ≡ None }
+{
+    if key == "probes" {
+        *probes = read_names(alloc, reader, depth)?;
+        return Ok(());
+    }
+    pass(reader, depth)?;
+    Ok(())
 }
 
 // The probes of each clone, where the next value is an array.
@@ -203,11 +250,7 @@ fn read_probes<'a>(
 {
     let mut probes = None;
     while let Some(key) = reader.next_key()? {
-        if key == "probes" {
-            probes = read_names(alloc, reader, depth)?;
-        } else {
-            pass(reader, depth)?;
-        }
+        read_probes_at(alloc, reader, depth, key, &mut probes)?;
     }
     Ok(probes)
 }

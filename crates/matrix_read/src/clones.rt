@@ -1,8 +1,9 @@
 // A matrix as probes and clones in JSON.
-ghost use Rattle.std.specs.Prelude.{◌≡◌, ◌+◌, ◌≤◌, ◌<◌, ◌∷◌, ℕ, [], drop, map, false, true, length, take, slice_index_or, Some, None, IfOk, IfErr, OnOk, MatchOption};
+ghost use Rattle.std.specs.Prelude.{◌≡◌, ◌+◌, ◌≤◌, ◌<◌, ◌∷◌, ℕ, [], drop, map, false, true, length, take, slice_index_or, Some, None, IfOk, IfErr, OnOk};
 ghost use Rattle.std.specs.List.{list_all};
 ghost use Rattle.row_model.specs.declared.code.TheConstants.{RANGE};
 ghost use Rattle.column_order.specs.Orders.{has};
+ghost use Rattle.text_lines.specs.Rows.{refused_or};
 ghost use Rattle.matrix_read.specs.Clones.{is_probe, column_of, names_code, clones};
 ghost use Rattle.matrix_read.specs.CloneNames.{names_view, clones_view, list_view, row_of_clone, names_matrix, matrix_of_names, matrix_named};
 ghost use Rattle.matrix_read.specs.CloneRows.{CloneLaw};
@@ -13,7 +14,7 @@ use crate::clone_names::{CloneNames, names_in};
 use crate::rows::{mark_column, refused, take_listed};
 use indexmap::IndexSet;
 use json::Scratch;
-use row_model::{MAX_COLUMNS, MAX_FILE_BYTES, MAX_ROWS, Matrix, NoMemory, Read, code};
+use row_model::{MAX_COLUMNS, MAX_FILE_BYTES, MAX_ROWS, Matrix, NoMemory, Read, Refusal, code};
 use std::alloc::Global;
 use text_lines::without_mark;
 
@@ -76,32 +77,46 @@ fn matrix_of(
     if probes.len() > MAX_COLUMNS as usize {
         return Ok(refused(code::LIMIT, 0));
     }
-    match names_of(alloc, probes)? {
-        None => Ok(refused(code::TWICE, 0)),
-        Some(names) => {
-            if clones.len() > MAX_ROWS as usize {
-                return Ok(refused(code::LIMIT, 0));
-            }
-            clone_matrix(alloc, &names, clones)
-        }
-    }
+    let mut names = IndexSet::new(alloc);
+    matrix_over(alloc, &mut names, probes, clones)
 }
 
-// The names of a list, in their order; none where one occurs twice.
-fn names_of<'a>(alloc: Global, list: &[&'a str]) -> Result<Option<IndexSet<&'a str>>, NoMemory>
-    ensures { IfOk result (λ names. MatchOption names
-        (has_twice (bytes_of list.now) ≡ true)
-        (λ names. (has_twice (bytes_of list.now) ≡ false) × (bytes_of names.keys ≡ bytes_of list.now))) }
+// The same of some probes, which are not too many. They are put into `names`, which are none before.
+fn matrix_over<'a>(
+    alloc: Global,
+    names: &mut IndexSet<&'a str>,
+    probes: &[&'a str],
+    clones: &[Option<Vec<&str>>],
+) -> Result<Read<Matrix>, NoMemory>
+    requires none { names.old.keys ≡ [] }
+    requires some { 0 < length probes.now }
+    requires small { length probes.now ≤ MAX_COLUMNS }
+    ensures { IfOk result (λ read. read ≡ matrix_of_names (bytes_of probes.now) (clones_view clones.now)) }
 {
-    let mut names = IndexSet::new(alloc);
+    if !put_names(names, probes)? {
+        return Ok(refused(code::TWICE, 0));
+    }
+    if clones.len() > MAX_ROWS as usize {
+        return Ok(refused(code::LIMIT, 0));
+    }
+    clone_matrix(alloc, names, clones)
+}
+
+// Puts the names of a list into `names`, which are none before, in their order, and says whether no two are equal.
+fn put_names<'a>(names: &mut IndexSet<&'a str>, list: &[&'a str]) -> Result<bool, NoMemory>
+    requires { names.old.keys ≡ [] }
+    ensures twice { IfOk result (λ once. once ≡ false → has_twice (bytes_of list.now) ≡ true) }
+    ensures once { IfOk result (λ once. once ≡ true → has_twice (bytes_of list.now) ≡ false) }
+    ensures names { IfOk result (λ once. once ≡ true → bytes_of names.new.keys ≡ bytes_of list.now) }
+{
     for place in 0..list.len() {
         match names.insert(name_at(list, place)) {
             Err(_) => return Err(NoMemory),
-            Ok(false) => return Ok(None),
+            Ok(false) => return Ok(false),
             Ok(true) => {}
         }
     }
-    Ok(Some(names))
+    Ok(true)
 }
 
 // The name at a place of a list.
@@ -123,15 +138,14 @@ fn clone_matrix(
     requires few { length clones.now ≤ MAX_ROWS }
     ensures { IfOk result (λ read. read ≡ names_matrix (bytes_of names.now.keys) (clones_view clones.now)) }
 {
-    let matrix = Matrix::with_room(alloc, names.len() as u32, clones.len(), clones.len())?;
     let mut marks = vec![in alloc; false; names.len()]?;
     let mut columns = vec![in alloc; 0u32; names.len()]?;
-    push_rows(matrix, names, clones, &mut marks, &mut columns)
+    let matrix = Matrix::with_room(alloc, names.len() as u32, clones.len(), clones.len())?;
+    filled(matrix, names, clones, &mut marks, &mut columns)
 }
 
-// Fills a matrix with the rows of clones. `marks` and `columns` have an entry for each probe. Between two clones no
-// mark is set.
-fn push_rows(
+// Fills a matrix with the rows of clones. `marks` and `columns` have an entry for each probe, and no mark is set.
+fn filled(
     mut matrix: Matrix,
     names: &IndexSet<&str>,
     clones: &[Option<Vec<&str>>],
@@ -147,13 +161,41 @@ fn push_rows(
     requires columns { length columns.old ≡ length names.now.keys }
     ensures { IfOk result (λ read. read ≡ names_matrix (bytes_of names.now.keys) (clones_view clones.now)) }
 {
+    match push_rows(&mut matrix, names, clones, marks, columns)? {
+        Some(refusal) => Ok(Read::Refused(refusal)),
+        None => Ok(Read::Ok(matrix)),
+    }
+}
+
+// Adds the rows of clones to a matrix without rows, or gives their first refusal. Between two clones no mark is set.
+fn push_rows(
+    matrix: &mut Matrix,
+    names: &IndexSet<&str>,
+    clones: &[Option<Vec<&str>>],
+    marks: &mut [bool],
+    columns: &mut [u32],
+) -> Result<Option<Refusal>, NoMemory>
+    requires empty { matrix.old.rows ≡ [] }
+    requires width { matrix.old.columns ≡ length names.now.keys }
+    requires small { length names.now.keys ≤ MAX_COLUMNS }
+    requires few { length clones.now ≤ MAX_ROWS }
+    requires marks { length marks.old ≡ length names.now.keys }
+    requires clear { (j : ℕ) → slice_index_or marks.old j false ≡ false }
+    requires columns { length columns.old ≡ length names.now.keys }
+    ensures { IfOk result (λ refusal. refused_or refusal matrix.new ≡ names_matrix (bytes_of names.now.keys) (clones_view clones.now)) }
+{
     for (i, clone) in clones.iter().enumerate() {
         match row_in(clone, names, marks, columns) {
-            Err(code) => return Ok(refused(code, i as u32 + 1)),
+            Err(code) => {
+                return Ok(Some(Refusal {
+                    code,
+                    line: i as u32 + 1,
+                }));
+            }
             Ok(ones) => matrix.push_row(&columns[..ones])?,
         }
     }
-    Ok(Read::Ok(matrix))
+    Ok(None)
 }
 
 // How many columns the row of a clone has, which stand at the front of `columns` then; or the code of its refusal.

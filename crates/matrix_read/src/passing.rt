@@ -13,6 +13,7 @@ use json::{Invalid, Reader, Token};
 /// # Errors
 ///
 /// [`Invalid`] exactly where there is no such value, or a number in it has no value.
+#[cycle(pass)]
 pub(crate) fn pass(reader: &mut Reader<'_>, depth: usize) -> Result<(), Invalid>
     ensures value { MatchResult result (λ _. behind (value_at depth reader.old) ≡ Some reader.new)
         (λ _. behind (value_at depth reader.old) ≡ None) }
@@ -70,8 +71,7 @@ fn pass_items(reader: &mut Reader<'_>, depth: usize) -> Result<(), Invalid>
     ensures shorter { OnOk result (length reader.new < length reader.old) }
 {
     while !reader.take_end_array() {
-        let token = reader.next().ok_or(Invalid)?;
-        pass_value(token, reader, depth)?;
+        pass(reader, depth)?;
     }
     Ok(())
 }
@@ -84,8 +84,7 @@ fn pass_members(reader: &mut Reader<'_>, depth: usize) -> Result<(), Invalid>
     ensures shorter { OnOk result (length reader.new < length reader.old) }
 {
     while let Some(_) = reader.next_key()? {
-        let token = reader.next().ok_or(Invalid)?;
-        pass_value(token, reader, depth)?;
+        pass(reader, depth)?;
     }
     Ok(())
 }

@@ -180,6 +180,17 @@ fn has_twice(alloc: Global, header: &ByteRecord) -> Result<bool, NoMemory>
     ensures { IfOk result (λ twice. twice ≡ has_twice (names_of (fields_of header.now))) }
 {
     let mut names: IndexSet<&[u8]> = IndexSet::new(alloc);
+    stands_twice(&mut names, header)
+}
+
+// The same. The names are put into `names`, which are none before, up to the first that stands there already.
+fn stands_twice<'a>(
+    names: &mut IndexSet<&'a [u8]>,
+    header: &'a ByteRecord,
+) -> Result<bool, NoMemory>
+    requires { names.old.keys ≡ [] }
+    ensures { IfOk result (λ twice. twice ≡ has_twice (names_of (fields_of header.now))) }
+{
     for place in 1..header.len() {
         let name = trimmed_field(header, place);
         if name.is_empty() {

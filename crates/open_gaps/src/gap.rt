@@ -6,7 +6,7 @@ ghost use Rattle.open_gaps.specs.Tables.{covered};
 
 /// How far the rows over a gap leave it open: by `last_row` for the columns at the positions past `last`, and by
 /// `first_row` for those at the positions before `first`. Positions count from 0.
-#[derive(Clone, Copy, Debug, PartialEq, Eq)]
+#[derive(Clone, Copy)]
 pub struct Gap {
     /// The least last position of a row over the gap.
     pub last: u32,

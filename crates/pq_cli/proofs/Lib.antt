@@ -1,4 +1,5 @@
 pub mod Counts
+mod Decided
 pub mod Frame
 pub mod Lines
 pub mod Bases

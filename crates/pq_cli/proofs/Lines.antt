@@ -26,7 +26,7 @@ memory_line (stop.Refused which refusal) e = absurd (omega arith)
 memory_line stop.ReadFault e = absurd (omega arith)
 memory_line stop.NoMemory e = refl
 
-no_other : (s : Stop) → (stop_status s ≡ 2) ⊎ (stop_status s ≡ 5) → ⊥
+pub no_other : (s : Stop) → (stop_status s ≡ 2) ⊎ (stop_status s ≡ 5) → ⊥
 no_other (stop.Refused which refusal) e = grind arith
 no_other stop.ReadFault e = grind arith
 no_other stop.NoMemory e = grind arith

@@ -1,11 +1,17 @@
 -- What is taken of one file.
-use Rattle.std.proofs.Common.{◌≡◌, ℕ, Bool, true, false, List, [], ◌∷◌, ◌++◌, length, Option, Some, None, IfSome, inl, inr, arith, subst, sym, ◌∙◌, ap, append-nil, refl}
-use Rattle.std.specs.Prelude.{Ok}
+use Rattle.std.proofs.Common.{◌≡◌, ◌≢◌, ◌≤◌, ℕ, Bool, true, false, List, [], ◌∷◌, ◌++◌, length, Option, Some, None, IfSome, inl, inr, arith, subst, sym, ◌∙◌, ap, append-nil, refl}
+use Rattle.std.specs.Prelude.{Ok, Err}
 use Rattle.std.proofs.lemmas.List.{length-append}
 use Rattle.std.specs.Io.KnownBytes.{Consumes, IsAtEnd}
-use Rattle.pq_io.specs.Taken.{Taken, asked_for, handed_out}
-use Rattle.pq_io.specs.Whole.{IsWhole, IsAtMost, IsHandedOut, HandsOutPart}
+use Rattle.pq_io.specs.Faults.{Rose}
+use Rattle.pq_io.specs.Shelf.{FailsOnlyIfRose, ChangedOnlyIfNotFound}
+use Rattle.pq_io.specs.Taken.{Taken, asked_for, handed_out, Asks}
+use Rattle.pq_io.specs.Whole.{FaultsOnlyIfRose, ChangedOnlyIfFault, IsWhole, IsAtMost, IsHandedOut, HandsOutPart}
 use Rattle.pq_io.specs.Through.{IsMadeOf}
+use Rattle.pq_io.specs.declared.error.ChooseError.{ChooseError}
+use Rattle.pq_io.specs.declared.error.ChooseError.TheVariants as choice
+use Rattle.pq_io.specs.declared.error.ReadFail.{ReadFail}
+use Rattle.pq_io.specs.declared.error.ReadFail.TheVariants as fail
 use Rattle.pq_io.specs.declared.reading.Whole.{Whole}
 use Rattle.pq_io.specs.declared.reading.Whole.TheVariants as whole
 use Rattle.row_model.specs.declared.refusal.Read.{Read}
@@ -40,6 +46,44 @@ part_taken told left_mid left_new before mid after name piece ended asked chosen
   part.taken ∙ ap (handed_out piece ended) asked ∙ asked_on name piece ended before,
   consumed_fits told left_new name piece ended (subst (λ l. Consumes l left_new piece) chosen part.consumed) part.end,
 )
+
+-- a file was chosen without a fault, and then read
+pub chosen_and_read : {S : Type 0} (content : S → List ℕ → Option (List ℕ)) (faults : S → ℕ) (old mid new : S) (status : ℕ) → ((name : List ℕ) → content mid name ≡ content old name)
+    → faults mid ≡ faults old → ((name : List ℕ) → content new name ≡ content mid name) → faults mid ≤ faults new → (status ≡ 4 → Rose (faults mid) (faults new))
+    → (faults new ≢ faults mid → status ≡ 4) → OnlyReads content faults old new status
+chosen_and_read content faults old mid new status chosen same read later fault nowhere =
+    record {
+      unchanged = λ name. read name ∙ chosen name;
+      later = omega (arith, later, same);
+      fault = λ e. subst (λ n. Rose n (faults new)) same (fault e);
+      nowhere_else = λ more. nowhere (λ e. more (e ∙ same));
+    }
+
+-- a choice that fails asks for the file, and one that lacks memory for none
+pub choice_fails : (before after : List Taken) (name : List ℕ) (e : ChooseError) → e ≡ choice.Failed → Asks {T = ℕ} before after name (Err e) → after ≡ asked_for name before
+choice_fails before after name choice.Failed is h = h
+choice_fails before after name choice.NoMemory is h = absurd (cc)
+
+pub choice_faults : (before now : ℕ) (e : ChooseError) → e ≡ choice.Failed → FailsOnlyIfRose {T = ℕ} before now (Err e) → Rose before now
+choice_faults before now choice.Failed is h = h
+choice_faults before now choice.NoMemory is h = absurd (cc)
+
+pub choice_lacks : (before after : List Taken) (name : List ℕ) (e : ChooseError) → e ≡ choice.NoMemory → Asks {T = ℕ} before after name (Err e) → after ≡ before
+choice_lacks before after name choice.Failed is h = absurd (cc)
+choice_lacks before after name choice.NoMemory is h = h
+
+pub choice_stands : (before now : ℕ) (e : ChooseError) → e ≡ choice.NoMemory → ChangedOnlyIfNotFound {T = ℕ} before now (Err e) → now ≡ before
+choice_stands before now choice.Failed is h = absurd (cc)
+choice_stands before now choice.NoMemory is h = h
+
+-- a read fails with a fault, or lacks memory
+pub read_faults : (before now : ℕ) (e : ReadFail) → e ≡ fail.Fault → FaultsOnlyIfRose {T = ℕ} before now (Err e) → Rose before now
+read_faults before now fail.Fault is h = h
+read_faults before now fail.NoMemory is h = absurd (cc)
+
+pub read_stands : (before now : ℕ) (e : ReadFail) → e ≡ fail.NoMemory → ChangedOnlyIfFault {T = ℕ} before now (Err e) → now ≡ before
+read_stands before now fail.Fault is h = absurd (cc)
+read_stands before now fail.NoMemory is h = h
 
 -- what was handed out whole is read whole
 pub handed_whole : (limit : ℕ) (name piece : List ℕ) (ended : Bool) (w : Whole) → IsHandedOut limit piece ended w → IsAtMost limit w → (bytes : List ℕ) → FitsTaken (took name piece ended) bytes → IsWhole limit bytes w

@@ -22,7 +22,6 @@ pub mod further_file;
 /// # Errors
 ///
 /// What stood in the way of the reply.
-#[tactic(auto, using(crate::proofs::Counts::counts_none))]
 #[inline(never)]
 pub fn extend_file<F: Shelf, L: Ledger>(
     alloc: Global,

@@ -21,7 +21,6 @@ pub mod tree_file;
 /// # Errors
 ///
 /// What stood in the way of the reply.
-#[tactic(auto, using(crate::proofs::Counts::counts_none))]
 #[inline(never)]
 pub fn meet_files<F: Shelf, L: Ledger>(
     alloc: Global,

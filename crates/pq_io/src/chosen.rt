@@ -1,21 +1,33 @@
 // What a name stands for: standard input, or a file of the system.
-ghost use Rattle.std.specs.Prelude.{◌≡◌, [], Some, IfOk};
+ghost use Rattle.std.specs.Prelude.{◌≡◌, [], ◌++◌, take, Some, IfOk, OnErr, IsTrue};
+ghost use Rattle.std.specs.Io.{ReadsAtMost};
+ghost use Rattle.std.specs.Io.KnownBytes.{ReadConsumes};
 ghost use Rattle.pq_io.specs.Source.{source_of};
-ghost use Rattle.pq_io.specs.Chosen.{source_chosen, given_of};
+ghost use Rattle.pq_io.specs.Chosen.{is_chosen, source_chosen, given_of, left_of};
 
 use crate::ChooseError;
 use crate::begun::Begun;
 use crate::history::Noted;
 use std::fs;
-use std::io::{self, ErrorKind};
+use std::io::{self, ErrorKind, Read};
 use std::rt::Files;
 
 /// What is chosen.
-#[derive(Drop)]
 pub enum Chosen<File, Reader> {
     Nothing,
     Input(Begun<Reader>),
     File(Opened<File>),
+}
+
+// By hand, so that a place where what was chosen is dropped proves one call and does not take its cases apart.
+impl<File: Drop, Reader: Drop> Drop for Chosen<File, Reader> {
+    fn drop(self) {
+        match self {
+            Chosen::Nothing => {}
+            Chosen::Input(_begun) => {}
+            Chosen::File(_opened) => {}
+        }
+    }
 }
 
 /// A file that was begun, and the name by which it was opened.
@@ -23,6 +35,25 @@ pub enum Chosen<File, Reader> {
 pub struct Opened<File> {
     pub begun: Begun<File>,
     name: Noted,
+}
+
+impl<File: Read, Reader: Read> Chosen<File, Reader> {
+    /// One read of what is chosen. It fails where the system's read fails for another cause than an interruption.
+    pub fn read(&mut self, buf: &mut [u8]) -> io::Result<usize>
+        requires { IsTrue (is_chosen self.old) }
+        ensures bound { ReadsAtMost result buf.new }
+        ensures bytes { ReadConsumes (left_of File.remaining Reader.remaining self.old) (left_of File.remaining Reader.remaining self.new) result buf.new }
+        ensures given { IfOk result (λ n. given_of self.new ≡ given_of self.old ++ take n buf.new) }
+        ensures kept { OnErr result (given_of self.new ≡ given_of self.old) }
+        ensures source { source_chosen self.new ≡ source_chosen self.old }
+        ensures chosen { IsTrue (is_chosen self.new) }
+    {
+        match self {
+            Chosen::Nothing => unreachable!(),
+            Chosen::Input(begun) => begun.read(buf),
+            Chosen::File(opened) => opened.begun.read(buf),
+        }
+    }
 }
 
 /// What stands behind a name.

@@ -107,12 +107,7 @@ impl<R: Files + Input + Drop> Shelf for RealShelf<R> {
         ensures source { self.new.source ≡ self.old.source }
         ensures count { self.new.faults ≡ count_after self.old.faults result }
     {
-        let outcome = match &mut self.chosen {
-            Chosen::Nothing => unreachable!(),
-            Chosen::Input(begun) => begun.read(buf),
-            Chosen::File(opened) => opened.begun.read(buf),
-        };
-        match outcome {
+        match self.chosen.read(buf) {
             Ok(n) => {
                 self.history.hand_out(&buf[..n]);
                 Ok(n)

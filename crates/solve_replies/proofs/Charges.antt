@@ -1,5 +1,6 @@
 -- What further rows cost adds up.
 use Rattle.std.proofs.Common.{◌≡◌, ℕ, ◌+◌, ◌*◌, ◌<◌, ◌≤◌, min, Bool, true, false, nat_lt, if◌then◌else◌, List, [], ◌∷◌, ◌++◌, length, sum_by, refl, sym, subst, arith, inl, inr, Result, Ok, Err, IfOk}
+use Rattle.std.specs.Prelude.{IsErrAnd}
 use Rattle.std.proofs.Math.Nat.{min-eq_left, min-eq_right, mul-le-mul_left, mul-le-mul_right, mul-suc, suc-mul}
 use Rattle.std.proofs.lemmas.Bool.{cases_lt, ltb-true}
 use Rattle.std.proofs.lemmas.List.{length-append}
@@ -164,3 +165,8 @@ pub of_base : {E : Type 0} (m : RowList) (further : List (List ℕ)) (r : Result
     → ExtendsWithin m further (made_status (λ reply. reply.status) r) s n
 of_base m further (Ok reply) s n none status most = record { base = λ e. (none, most); session = λ e. absurd (omega (arith, status, e)); most = omega (arith, most) }
 of_base m further (Err e) s n none status most = record { base = λ e. absurd (omega (arith, e)); session = λ e. absurd (omega (arith, e)); most = omega (arith, most) }
+
+-- memory was refused before any further row
+pub of_none : {E : Type 0} (m : RowList) (further : List (List ℕ)) (r : Result Reply E) (P : E → Type 0) (s n : ℕ) → IsErrAnd r P → n ≤ s + answer_steps m → ExtendsWithin m further (made_status (λ reply. reply.status) r) s n
+of_none m further (Ok reply) P s n is most = absurd is
+of_none m further (Err e) P s n is most = record { base = λ e. absurd (omega (arith, e)); session = λ e. absurd (omega (arith, e)); most = omega (arith, most) }

@@ -11,3 +11,4 @@ pub mod TextLaws
 pub mod WriteLaws
 pub mod FitLemmas
 pub mod NearCounts
+pub mod ReadLaws

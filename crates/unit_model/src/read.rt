@@ -1,6 +1,8 @@
 // A unit model, read from bytes.
-ghost use Rattle.std.specs.Prelude.{◌≡◌, ◌≢◌, ◌≤◌, length, option_map, IfOk, IfSome, IfNone};
+ghost use Rattle.std.specs.Prelude.{◌≡◌, ◌≢◌, ◌≤◌, length, option_and_then, option_map, IfOk, IfSome, IfNone};
+ghost use Rattle.plain_text.specs.Numbers.{number_at};
 ghost use Rattle.plain_text.specs.Rest.{with_rest};
+ghost use Rattle.plain_text.specs.Words.{word_at};
 ghost use Rattle.unit_model.specs.Text.{UnitValue, IsUnit, unit_text};
 ghost use Rattle.unit_model.specs.Reading.{left_at, lefts_at, head_at, unit_of, head_seen, lefts_seen};
 
@@ -46,10 +48,8 @@ fn read_unit(alloc: Global, bytes: &[u8]) -> Result<Option<UnitText>, NoMemory>
 fn read_head(bytes: &[u8]) -> Option<(u32, u64, &[u8])>
     ensures { option_map head_seen result ≡ head_at bytes.now }
 {
-    let rest = after_word(bytes, b"pq-unit 1\nvertices ")?;
-    let (vertices, rest) = number(rest, u64::from(MAX_COLUMNS))?;
-    let rest = after_word(rest, b"\nlength ")?;
-    let (length, rest) = number(rest, u64::MAX)?;
+    let (vertices, rest) = number_after(bytes, b"pq-unit 1\nvertices ", u64::from(MAX_COLUMNS))?;
+    let (length, rest) = number_after(rest, b"\nlength ", u64::MAX)?;
     let rest = after_word(rest, b"\n")?;
     if vertices == 0 {
         return None;
@@ -83,14 +83,21 @@ fn read_lefts(
 fn read_left(i: u32, bytes: &[u8]) -> Option<(u64, &[u8])>
     ensures { option_map with_rest result ≡ left_at i bytes.now }
 {
-    let rest = after_word(bytes, b"unit ")?;
-    let (index, rest) = number(rest, u64::from(MAX_COLUMNS))?;
-    let rest = after_word(rest, b" ")?;
-    let (left, rest) = number(rest, u64::MAX)?;
+    let (index, rest) = number_after(bytes, b"unit ", u64::from(MAX_COLUMNS))?;
+    let (left, rest) = number_after(rest, b" ", u64::MAX)?;
     let rest = after_word(rest, b"\n")?;
     if index == u64::from(i) {
         Some((left, rest))
     } else {
         None
     }
+}
+
+// The number up to a limit that stands behind a word, and the bytes after it.
+fn number_after<'a>(bytes: &'a [u8], word: &[u8], limit: u64) -> Option<(u64, &'a [u8])>
+    ensures value { option_map with_rest result ≡ option_and_then (number_at limit) (word_at word.now bytes.now) }
+    ensures within { IfSome result (λ x. x.0 ≤ limit) }
+{
+    let rest = after_word(bytes, word)?;
+    number(rest, limit)
 }

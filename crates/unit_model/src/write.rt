@@ -21,8 +21,7 @@ pub fn print_unit(t: &UnitText, text: &mut Vec<u8>) -> Result<(), NoMemory>
 {
     push_head(t.vertices(), t.length(), text)?;
     push_lefts(t.lefts(), text)?;
-    push(text, b"end\n")?;
-    Ok(())
+    push(text, b"end\n")
 }
 
 // Appends the lines before those of the vertices.
@@ -31,8 +30,7 @@ fn push_head(vertices: u32, length: u64, text: &mut Vec<u8>) -> Result<(), NoMem
     ensures err { OnErr result (Extends text.old.items text.new.items) }
 {
     push_up_to_end(b"pq-unit 1\nvertices ", u64::from(vertices), text)?;
-    push_up_to_end(b"length ", length, text)?;
-    Ok(())
+    push_up_to_end(b"length ", length, text)
 }
 
 // Appends a word and a number, up to the end of the line.
@@ -42,8 +40,7 @@ fn push_up_to_end(word: &[u8], n: u64, text: &mut Vec<u8>) -> Result<(), NoMemor
 {
     push(text, word)?;
     push_number(text, n)?;
-    push(text, b"\n")?;
-    Ok(())
+    push(text, b"\n")
 }
 
 // Appends bytes.
@@ -72,6 +69,5 @@ fn push_left(i: u64, left: u64, text: &mut Vec<u8>) -> Result<(), NoMemory>
 {
     push(text, b"unit ")?;
     push_number(text, i)?;
-    push_up_to_end(b" ", left, text)?;
-    Ok(())
+    push_up_to_end(b" ", left, text)
 }

@@ -1,5 +1,6 @@
 -- Lines in chains by the first columns of their pairs, and those of a chain whose pairs stand on earlier lines.
-use Rattle.std.proofs.Common.{◌≡◌, ◌≢◌, ◌∙◌, ℕ, zero, suc, ◌+◌, ◌-◌, ◌<◌, ◌≤◌, List, [], ◌∷◌, length, take, set, replicate, get_or, sym, ap, subst, inl, inr, arith, length-set, get_or-set_same, get_or-set_other}
+use Rattle.std.proofs.Common.{◌≡◌, ◌≢◌, ◌∙◌, ℕ, zero, suc, ◌+◌, ◌-◌, ◌<◌, ◌≤◌, List, [], ◌∷◌, ◌++◌, length, take, drop, set, replicate, get_or, sym, ap, subst, inl, inr, arith, length-set, get_or-set_same, get_or-set_other}
+use Rattle.std.proofs.Math.Seq.{take-append_seam}
 use Rattle.std.specs.List.{All}
 use Rattle.std.proofs.lemmas.Bool.{cases_eq, cases_lt}
 use Rattle.std.proofs.lemmas.List.{get_or-replicate, length-replicate}
@@ -68,6 +69,13 @@ chains_more lines i a firsts nexts l own m h =
         | inr n ↦ subst (IsNextInChain (get_or lines j d).pair.a lines (j + 1)) (sym (get_or-set_other nexts i j (get_or firsts a 0) 0 n)) (h.next j d (omega (arith, u, n)) v)
       ];
     }
+
+-- the first column of a line has a chain
+pub column_within : (c i count : ℕ) (lines : List Line) (d : Line) → i < length lines → ((k : ℕ) → 1 ≤ k → k ≤ length lines → PassesPair c lines k) →
+    count ≡ c + 1 → (get_or lines i d).pair.a < count
+column_within c i count lines d l pairs long =
+    let p : IsPair c (get_or lines i d).pair = pair_here c lines i d l pairs in
+    omega (arith, p.a_to, long)
 
 -- ---- the stamps along the chain of a column
 
@@ -143,3 +151,36 @@ all_passed c least lines pairs u h j l m =
     let none : Line = record { pair = record { a = 0; b = 0 }; why = Flip } in
     let p : IsPair c (get_or lines (j - 1) none).pair = pair_here c lines (j - 1) none (omega (arith, l, m, u)) pairs in
     subst (PassesRepeat lines) (omega (arith, l)) (h (j - 1) none (omega (arith, l, m)) p.a_to)
+
+-- ---- the least line of all chains
+
+-- a list that is lent as it is, and given back
+pub given_back : (count : ℕ) (new old : List ℕ) → count ≡ length new → take count (new ++ drop (length new) old) ≡ new
+given_back count new old e = ap (λ n. take n (new ++ drop (length new) old)) e ∙ take-append_seam new (drop (length new) old)
+
+-- the stamps at first
+pub zeros_low : (count : ℕ) → All (λ stamp. stamp ≤ 0) (replicate count 0)
+zeros_low count k d l = omega (arith, get_or-replicate count k 0 d (omega (arith, l, length-replicate {A = ℕ} count 0)))
+
+-- no column has been tested, and each first column is 1 or more
+pub none_tested : (c : ℕ) (lines : List Line) → ((k : ℕ) → 1 ≤ k → k ≤ length lines → PassesPair c lines k) →
+    (i : ℕ) (d : Line) → i < length lines → (get_or lines i d).pair.a ≤ 0 → PassesRepeat lines (i + 1)
+none_tested c lines pairs i d l u =
+    let p : IsPair c (get_or lines i d).pair = pair_here c lines i d l pairs in
+    absurd (omega (arith, p.a_from, u))
+
+-- the least line of one chain more
+pub least_fails : (least next : ℕ) (lines : List Line) → (next ≢ least → PassesRepeat lines (next + 1) → ⊥) → (least ≢ length lines → PassesRepeat lines (least + 1) → ⊥) →
+    next ≢ length lines → PassesRepeat lines (next + 1) → ⊥
+least_fails least next lines here before n =
+    elim (cases_eq next least) [ inl e ↦ subst (λ k. PassesRepeat lines (k + 1) → ⊥) (sym e) (before (λ s. n (e ∙ s))) | inr m ↦ here m ]
+
+pub tested_more : (a least next : ℕ) (lines : List Line) → next ≤ least →
+    ((i : ℕ) (d : Line) → i < next → (get_or lines i d).pair.a ≡ a + 1 → PassesRepeat lines (i + 1)) →
+    ((i : ℕ) (d : Line) → i < least → (get_or lines i d).pair.a ≤ a → PassesRepeat lines (i + 1)) →
+    (i : ℕ) (d : Line) → i < next → (get_or lines i d).pair.a ≤ a + 1 → PassesRepeat lines (i + 1)
+tested_more a least next lines u here before i d l m =
+    elim (cases_eq (get_or lines i d).pair.a (a + 1)) [
+      | inl e ↦ here i d l e
+      | inr n ↦ before i d (omega (arith, l, u)) (omega (arith, m, n))
+    ]

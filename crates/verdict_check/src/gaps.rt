@@ -83,6 +83,7 @@ impl Gaps {
         ensures holds { (t : Outline) → AreGaps t self.now → (IsTrue result ↔ AllKeep t row.now) }
         ensures ticks { steps.new ≤ steps.old + 1 + 2 * length row.now }
         ensures turns { steps.old + 1 + length row.now ≤ steps.new }
+        ensures each { IsTrue result → steps.old + 2 * length row.now ≤ steps.new }
     {
         count_row(row, steps);
         match span_of(&self.positions, row) {

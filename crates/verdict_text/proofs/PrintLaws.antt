@@ -19,3 +19,7 @@ subject_printed old a b d e new word kind columns w f g h k l =
     joined old d e new (first ++ (kind_word kind ++ codes "\ncolumns")) (flat_map number_word columns) (10 ∷ [])
     (joined old a b d first (kind_word kind) (codes "\ncolumns") f (g ∙ ap (λ t. a ++ t) w) h) k l
     ∙ ap (λ t. old ++ t) (append_assoc first (kind_word kind ++ codes "\ncolumns") rest ∙ ap (λ t. first ++ t) (append_assoc (kind_word kind) (codes "\ncolumns") rest) ∙ subject_pieces kind columns)
+
+-- a piece, and what follows it
+pub and_after : (old now new x y : List ℕ) → now ≡ old ++ x → new ≡ now ++ y → new ≡ old ++ (x ++ y)
+and_after old now new x y e f = f ∙ ap (λ t. t ++ y) e ∙ append_assoc old x y

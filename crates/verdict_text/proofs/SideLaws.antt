@@ -1,6 +1,7 @@
 -- One side of a yes: its tree and its order.
 use Rattle.std.proofs.Common.{◌≡◌, ◌∙◌, ◌+◌, ◌%◌, ◌^◌, ◌<◌, ◌≤◌, ℕ, suc, false, List, [], ◌∷◌, ◌++◌, length, take, drop, Some, refl, sym, ap, arith, inl, inr, subst, codes, eqb}
 use Rattle.std.specs.Prelude.{option_and_then, flat_map}
+use Rattle.std.specs.List.{AllByRecursion}
 use Rattle.std.specs.Fmt.{decimal}
 use Rattle.std.proofs.lemmas.List.{append_assoc, take-append-drop}
 use Rattle.std.proofs.Math.Seq.{drop-append_seam, take-append_seam}
@@ -21,8 +22,9 @@ use Rattle.verdict_text.specs.Verdict.{SideValue}
 use Rattle.verdict_text.specs.Text.{side_text}
 use Rattle.text_parts.specs.Text.{number_word}
 use Rattle.verdict_text.specs.Grammar.{IsSide}
+use Rattle.text_parts.specs.Grammar.{Fits32}
 use Rattle.text_parts.specs.Reading.{numbers_at}
-use Rattle.verdict_text.specs.Reading.{tree_at, with_bytes, line_len, side_at}
+use Rattle.verdict_text.specs.Reading.{tree_at, with_bytes, line_len, order_at, side_at}
 use Rattle.text_parts.proofs.Chains.{Takes, after_word, at_word, some_number}
 use Rattle.text_parts.proofs.WordLaws.{numbers_take, numbers_again, words_long}
 
@@ -106,35 +108,56 @@ tree_again c t rest l h =
 side_regroup : (s : SideValue) (rest : List ℕ) → side_text s ++ rest ≡ codes "tree " ++ (tree_text s.tree ++ (codes "\norder" ++ (flat_map number_word s.order ++ (10 ∷ rest))))
 side_regroup s rest = simp append_assoc
 
+record OrderIs (bytes order rest : List ℕ) : Type 0 where
+  some : 1 ≤ length order
+  each : AllByRecursion Fits32 order
+  front : bytes ≡ codes "\norder" ++ (flat_map number_word order ++ (10 ∷ rest))
+
+order_takes : (bytes order rest : List ℕ) → order_at bytes ≡ Some (order, rest) → OrderIs bytes order rest
+unfolding order_at
+order_takes bytes order rest h =
+    let b = after_word _ (codes "\norder") bytes (order, rest) h in
+    option_and_then_some _ (numbers_at (length b.0) b.0) (order, rest) b.2 (λ y f m.
+    let r = numbers_take (length b.0) b.0 y.0 y.1 f in
+    let d = after_word _ (10 ∷ []) y.1 (order, rest) m in
+    elim (chosen (eqb (length y.0) 0) _ _ _ d.2) [
+      | inl z ↦ absurd (none-some _ z.1)
+      | inr z ↦
+          let e' = some_pair_parts y.0 order d.0 rest z.1 in
+          subst (λ o. OrderIs bytes o rest) e'.0 (record {
+            some = some_number (length y.0) z.0;
+            each = r.each;
+            front = b.1 ∙ ap (λ w. codes "\norder" ++ w) (r.front ∙ ap (λ w. flat_map number_word y.0 ++ w) (d.1 ∙ ap (λ w. 10 ∷ w) e'.1));
+          })
+    ])
+
+order_again : (order rest : List ℕ) → 1 ≤ length order → AllByRecursion Fits32 order → order_at (codes "\norder" ++ (flat_map number_word order ++ (10 ∷ rest))) ≡ Some (order, rest)
+unfolding order_at
+order_again order rest h k =
+    let some : eqb (length order) 0 ≡ false = ne_eqb (length order) 0 (λ e. omega (arith, h)) in
+    at_word _ (codes "\norder") (flat_map number_word order ++ (10 ∷ rest))
+    ∙ ap (option_and_then _) (numbers_again (length (flat_map number_word order ++ (10 ∷ rest))) order rest (words_long order rest) k)
+    ∙ at_word _ (10 ∷ []) rest ∙ rw some refl
+
 pub side_takes : (c : ℕ) (bytes : List ℕ) (s : SideValue) (rest : List ℕ) → c < 2 ^ 64 → side_at c bytes ≡ Some (s, rest) → Takes side_text (IsSide c) bytes s rest
 unfolding side_at
 side_takes c bytes s rest l h =
     let a = after_word _ (codes "tree ") bytes (s, rest) h in
     option_and_then_some _ (tree_at c a.0) (s, rest) a.2 (λ x e k.
     let t = tree_takes c a.0 x.0 x.1 l e in
-    let b = after_word _ (codes "\norder") x.1 (s, rest) k in
-    option_and_then_some _ (numbers_at (length b.0) b.0) (s, rest) b.2 (λ y f m.
-    let r = numbers_take (length b.0) b.0 y.0 y.1 f in
-    let d = after_word _ (10 ∷ []) y.1 (s, rest) m in
-    elim (chosen (eqb (length y.0) 0) _ _ _ d.2) [
-      | inl z ↦ absurd (none-some _ z.1)
-      | inr z ↦
-          let made : SideValue = record { tree = x.0; order = y.0 } in
-          let e' = some_pair_parts made s d.0 rest z.1 in record {
-            good = subst (IsSide c) e'.0 (t.0, some_number (length y.0) z.0, r.each);
-            front = a.1 ∙ ap (λ w. codes "tree " ++ w) (t.1 ∙ ap (λ w. tree_text x.0 ++ w) (b.1 ∙ ap (λ w. codes "\norder" ++ w) (r.front ∙ ap (λ w. flat_map number_word y.0 ++ w) (d.1 ∙ ap (λ w. 10 ∷ w) e'.1))))
-                ∙ sym (side_regroup made rest) ∙ ap (λ w. side_text w ++ rest) e'.0;
-          }
-    ]))
+    option_and_then_some _ (order_at x.1) (s, rest) k (λ y f m.
+    let b = order_takes x.1 y.0 y.1 f in
+    let made : SideValue = record { tree = x.0; order = y.0 } in
+    let e' = some_pair_parts made s y.1 rest m in record {
+      good = subst (IsSide c) e'.0 (t.0, b.some, b.each);
+      front = a.1 ∙ ap (λ w. codes "tree " ++ w) (t.1 ∙ ap (λ w. tree_text x.0 ++ w) (b.front ∙ ap (λ w. codes "\norder" ++ (flat_map number_word y.0 ++ (10 ∷ w))) e'.1))
+          ∙ sym (side_regroup made rest) ∙ ap (λ w. side_text w ++ rest) e'.0;
+    }))
 
 pub side_again : (c : ℕ) (s : SideValue) (rest : List ℕ) → c < 2 ^ 64 → IsSide c s → side_at c (side_text s ++ rest) ≡ Some (s, rest)
 unfolding side_at
 side_again c s rest l h =
-    let some : eqb (length s.order) 0 ≡ false = ne_eqb (length s.order) 0 (λ e. omega (arith, h.1)) in
-    let enough : length s.order < length (flat_map number_word s.order ++ (10 ∷ rest)) = words_long s.order rest in
     ap (side_at c) (side_regroup s rest)
     ∙ at_word _ (codes "tree ") (tree_text s.tree ++ (codes "\norder" ++ (flat_map number_word s.order ++ (10 ∷ rest))))
     ∙ ap (option_and_then _) (tree_again c s.tree (codes "order" ++ (flat_map number_word s.order ++ (10 ∷ rest))) l h.0)
-    ∙ at_word _ (codes "\norder") (flat_map number_word s.order ++ (10 ∷ rest))
-    ∙ ap (option_and_then _) (numbers_again (length (flat_map number_word s.order ++ (10 ∷ rest))) s.order rest enough h.2)
-    ∙ at_word _ (10 ∷ []) rest ∙ rw some refl
+    ∙ ap (option_and_then _) (order_again s.order rest h.1 h.2)

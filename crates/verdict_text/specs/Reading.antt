@@ -56,15 +56,21 @@ with_bytes rest tree = Some (tree, rest)
 unfoldable pub tree_at : ℕ → List ℕ → Option (Outline × List ℕ)
 tree_at c bytes = tree_of c (take (line_len bytes) bytes) >>= with_bytes (drop (line_len bytes) bytes)
 
+-- a side's order, one number or more
+unfoldable pub order_at : List ℕ → Option (List ℕ × List ℕ)
+order_at bytes = do
+  next ← word_at (codes "\norder") bytes
+  order ← numbers_at (length next) next
+  rest ← word_at (10 ∷ []) order.1
+  if length order.0 == 0 then None else Some (order.0, rest)
+
 -- a side's tree and order
 unfoldable pub side_at : ℕ → List ℕ → Option (SideValue × List ℕ)
 side_at c bytes = do
   first ← word_at (codes "tree ") bytes
   tree ← tree_at c first
-  next ← word_at (codes "\norder") tree.1
-  order ← numbers_at (length next) next
-  rest ← word_at (10 ∷ []) order.1
-  if length order.0 == 0 then None else Some (record { tree = tree.0; order = order.0 }, rest)
+  order ← order_at tree.1
+  Some (record { tree = tree.0; order = order.0 }, order.1)
 
 -- a word, and a given number
 unfoldable pub index_at : List ℕ → ℕ → List ℕ → Option (List ℕ)

@@ -31,8 +31,7 @@ impl LineForm for IntervalLine {
         push_number(text, i)?;
         push_word(interval.left, text)?;
         push_word(interval.right, text)?;
-        push(text, b"\n")?;
-        Ok(())
+        push(text, b"\n")
     }
 
     #[tactic(auto, unfolding(crate::specs::Reading::interval_at, crate::specs::Reading::two_at))]
@@ -66,8 +65,7 @@ impl LineForm for PlaceLine {
     fn print(i: u64, place: Place, text: &mut Vec<u8>) -> Result<(), NoMemory> {
         push(text, b"place ")?;
         push_number(text, i)?;
-        push_place_ends(place, text)?;
-        Ok(())
+        push_place_ends(place, text)
     }
 
     #[tactic(auto, unfolding(crate::specs::Reading::place_at))]
@@ -96,10 +94,7 @@ fn push_place_ends(place: Place, text: &mut Vec<u8>) -> Result<(), NoMemory>
     ensures err { OnErr result (Extends text.old.items text.new.items) }
 {
     match place {
-        Place::Nowhere => {
-            push(text, b" none\n")?;
-            Ok(())
-        }
+        Place::Nowhere => push(text, b" none\n"),
         Place::At { first, last } => push_ends(first, last, text),
     }
 }
@@ -110,8 +105,7 @@ fn push_ends(first: u32, last: u32, text: &mut Vec<u8>) -> Result<(), NoMemory>
 {
     push_word(u64::from(first), text)?;
     push_word(u64::from(last), text)?;
-    push(text, b"\n")?;
-    Ok(())
+    push(text, b"\n")
 }
 
 // The line of a contig, which has no number.
@@ -130,8 +124,7 @@ impl LineForm for ContigLine {
 
     fn print(_: u64, contig: Span, text: &mut Vec<u8>) -> Result<(), NoMemory> {
         push(text, b"contig")?;
-        push_ends(contig.first, contig.last, text)?;
-        Ok(())
+        push_ends(contig.first, contig.last, text)
     }
 
     #[tactic(auto, unfolding(crate::specs::Reading::contig_at))]

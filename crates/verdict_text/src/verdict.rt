@@ -85,18 +85,37 @@ pub(crate) enum Sides {
 }
 
 // The tree of a side, and one of its orders.
-#[derive(Drop)]
 pub(crate) struct Side {
     pub tree: PqTree,
     pub order: Vec<u32>,
 }
 
+// By hand, as that of a verdict.
+impl Drop for Side {
+    fn drop(self) {
+        let Side {
+            tree: _tree,
+            order: _order,
+        } = self;
+    }
+}
+
 // What some kinds add.
-#[derive(Drop)]
 pub(crate) struct Added {
     pub intervals: Intervals,
     pub places: Places,
     pub contigs: Spans,
+}
+
+// By hand, as that of a verdict.
+impl Drop for Added {
+    fn drop(self) {
+        let Added {
+            intervals: _intervals,
+            places: _places,
+            contigs: _contigs,
+        } = self;
+    }
 }
 
 #[tactic(auto, unfolding(crate::specs::Value::side_value))]

@@ -26,8 +26,7 @@ pub fn print(v: &Verdict, text: &mut Vec<u8>) -> Result<(), NoMemory>
 {
     push_head(v.version, v.kind, v.columns, text)?;
     push_part(v.kind, &v.part, text)?;
-    push(text, b"end\n")?;
-    Ok(())
+    push(text, b"end\n")
 }
 
 // The first three lines.
@@ -41,8 +40,7 @@ fn push_head(
     ensures err { OnErr result (Extends text.old.items text.new.items) }
 {
     push(text, line_of(version))?;
-    print_subject(kind, columns, text)?;
-    Ok(())
+    print_subject(kind, columns, text)
 }
 
 // The first line, which names the version.
@@ -68,8 +66,7 @@ pub fn print_subject(kind: Kind, columns: Columns, text: &mut Vec<u8>) -> Result
     push(text, word_of(kind))?;
     push(text, b"\ncolumns")?;
     push_columns(columns, text)?;
-    push(text, b"\n")?;
-    Ok(())
+    push(text, b"\n")
 }
 
 fn push_columns(columns: Columns, text: &mut Vec<u8>) -> Result<(), NoMemory>
@@ -90,13 +87,11 @@ fn push_part(kind: Kind, part: &Part, text: &mut Vec<u8>) -> Result<(), NoMemory
         Part::Yes(yes) => {
             push(text, b"answer yes\n")?;
             push_sides(&yes.sides, text)?;
-            push_added(kind, yes, text)?;
-            Ok(())
+            push_added(kind, yes, text)
         }
         Part::No(no) => {
             push(text, b"answer no\n")?;
-            push_no(no, text)?;
-            Ok(())
+            push_no(no, text)
         }
     }
 }
@@ -106,14 +101,10 @@ fn push_sides(sides: &Sides, text: &mut Vec<u8>) -> Result<(), NoMemory>
     ensures err { OnErr result (Extends text.old.items text.new.items) }
 {
     match sides {
-        Sides::One(only, _) => {
-            push_side(only, text)?;
-            Ok(())
-        }
+        Sides::One(only, _) => push_side(only, text),
         Sides::Two(first, second) => {
             push_side(first, text)?;
-            push_side(second, text)?;
-            Ok(())
+            push_side(second, text)
         }
     }
 }
@@ -138,8 +129,7 @@ pub fn print_side(tree: &PqTree, order: &[u32], text: &mut Vec<u8>) -> Result<()
     tree.print(text)?;
     push(text, b"\norder")?;
     push_words(order, text)?;
-    push(text, b"\n")?;
-    Ok(())
+    push(text, b"\n")
 }
 
 // What the kind adds.
@@ -151,8 +141,7 @@ fn push_added(kind: Kind, yes: &YesPart, text: &mut Vec<u8>) -> Result<(), NoMem
         Kind::Proper => print_lines::<IntervalLine>(yes.intervals(), text),
         Kind::Clones => {
             print_counted::<PlaceLine>(b"places ", yes.places(), text)?;
-            push_contigs(yes.contigs(), text)?;
-            Ok(())
+            push_contigs(yes.contigs(), text)
         }
         Kind::Matrix
         | Kind::Rows
@@ -179,6 +168,5 @@ fn push_no(no: &NoPart, text: &mut Vec<u8>) -> Result<(), NoMemory>
     push(text, b"side ")?;
     push_number(text, u64::from(no.side))?;
     push(text, b"\n")?;
-    print_cycle(no.lines.as_slice(), text)?;
-    Ok(())
+    print_cycle(no.lines.as_slice(), text)
 }

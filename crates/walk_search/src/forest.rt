@@ -10,7 +10,7 @@ use std::alloc::Global;
 
 /// A pair that the search has reached. There are fewer than 2^32 pairs, and each takes 24 bytes
 /// here and 4 among the numbers.
-#[derive(Clone, Copy, Debug, PartialEq, Eq)]
+#[derive(Clone, Copy)]
 pub struct Node {
     /// The pair.
     pub pair: Pair,
@@ -23,7 +23,7 @@ pub struct Node {
 }
 
 /// Two joined pairs of one tree that lie both an odd or both an even number of steps from its root.
-#[derive(Clone, Copy, Debug, PartialEq, Eq)]
+#[derive(Clone, Copy)]
 pub struct Conflict {
     /// The index of the one.
     pub from: u32,
@@ -34,7 +34,6 @@ pub struct Conflict {
 }
 
 /// Search trees in the order in which their nodes were reached, with the place of each pair.
-#[derive(Drop)]
 pub struct Forest {
     /// The index of each pair's node, counted from 1; 0 where the pair is not reached.
     pub numbers: PairNumbers,
@@ -42,6 +41,17 @@ pub struct Forest {
     pub nodes: Vec<Node>,
     /// The index of the root of the last tree.
     pub root: u32,
+}
+
+// By hand, so that a place where it is dropped proves one call and does not take its parts apart.
+impl Drop for Forest {
+    fn drop(self) {
+        let Forest {
+            numbers: _numbers,
+            nodes: _nodes,
+            root: _root,
+        } = self;
+    }
 }
 
 impl Forest {

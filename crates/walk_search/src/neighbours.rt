@@ -19,7 +19,6 @@ use row_model::{Line, NoMemory, Pair, Why};
 
 /// What leads from a pair to the pairs that rows join to it: the open gaps of the first rows, where the search goes
 /// along an order that is valid for them, and for each column the further rows that have it.
-#[derive(Drop)]
 pub struct Neighbours {
     /// The number of first rows, which is 0 where there are no gaps.
     pub first: u32,
@@ -27,6 +26,17 @@ pub struct Neighbours {
     pub gaps: Option<OpenGaps>,
     /// For each column the further rows that have it, numbered from 1 after the first ones.
     pub holders: Vec<Vec<u32>>,
+}
+
+// By hand, so that a place where they are dropped proves one call and does not take their parts apart.
+impl Drop for Neighbours {
+    fn drop(self) {
+        let Neighbours {
+            first: _first,
+            gaps: _gaps,
+            holders: _holders,
+        } = self;
+    }
 }
 
 impl Neighbours {

@@ -1,8 +1,9 @@
 // A yes: its sides, and what its kind adds.
-ghost use Rattle.std.specs.Prelude.{◌≡◌, ◌≤◌, length};
+ghost use Rattle.std.specs.Prelude.{◌≡◌, ◌≤◌, [], ◌∷◌, length};
 ghost use Rattle.verdict_text.specs.Grammar.{AreColumnCounts};
-ghost use Rattle.verdict_text.specs.Reading.{yes_at, side_at, tree_at, line_len, added_at, placed_at};
-ghost use Rattle.text_parts.specs.Seen.{Gives};
+ghost use Rattle.row_model.specs.declared.kind.Kind.TheVariants.{Doubly};
+ghost use Rattle.verdict_text.specs.Reading.{yes_at, side_at, tree_at, line_len, order_at, added_at, placed_at};
+ghost use Rattle.text_parts.specs.Seen.{Gives, numbers_seen};
 ghost use Rattle.verdict_text.specs.Seen.{yes_seen, side_seen, tree_seen, added_seen};
 ghost use Rattle.verdict_text.specs.Value.{column_counts};
 
@@ -24,19 +25,34 @@ pub fn read_yes(
     ensures { Gives yes_seen result (yes_at kind (column_counts columns) bytes.now) }
 {
     match columns {
-        Columns::One(c) => {
-            let (side, rest) = read_side(alloc, c, bytes)?;
-            let (added, rest) = read_added(alloc, kind, c, rest)?;
-            let sides = Sides::One(side, added);
-            Ok((YesPart { sides }, rest))
-        }
-        Columns::Two(c, d) => {
-            let (first, rest) = read_side(alloc, c, bytes)?;
-            let (second, rest) = read_side(alloc, d, rest)?;
-            let sides = Sides::Two(first, second);
-            Ok((YesPart { sides }, rest))
-        }
+        Columns::One(c) => read_one(alloc, kind, c, bytes),
+        Columns::Two(c, d) => read_two(alloc, c, d, bytes),
     }
+}
+
+// A yes with one side.
+#[tactic(auto, unfolding(crate::specs::Reading::yes_at))]
+fn read_one(alloc: Global, kind: Kind, c: u32, bytes: &[u8]) -> Result<(YesPart, &[u8]), Stop>
+    requires { (1 ≤ c) × (c ≤ COLUMN_BOUND) }
+    ensures { Gives yes_seen result (yes_at kind (c ∷ []) bytes.now) }
+{
+    let (side, rest) = read_side(alloc, c, bytes)?;
+    let (added, rest) = read_added(alloc, kind, c, rest)?;
+    let sides = Sides::One(side, added);
+    Ok((YesPart { sides }, rest))
+}
+
+// A yes with two sides, whose kind adds nothing.
+#[tactic(auto, unfolding(crate::specs::Reading::yes_at))]
+fn read_two(alloc: Global, c: u32, d: u32, bytes: &[u8]) -> Result<(YesPart, &[u8]), Stop>
+    requires first { (1 ≤ c) × (c ≤ COLUMN_BOUND) }
+    requires second { (1 ≤ d) × (d ≤ COLUMN_BOUND) }
+    ensures { Gives yes_seen result (yes_at Doubly (c ∷ d ∷ []) bytes.now) }
+{
+    let (first, rest) = read_side(alloc, c, bytes)?;
+    let (second, rest) = read_side(alloc, d, rest)?;
+    let sides = Sides::Two(first, second);
+    Ok((YesPart { sides }, rest))
 }
 
 #[tactic(auto, unfolding(crate::specs::Reading::side_at, crate::specs::Value::side_value))]
@@ -46,13 +62,22 @@ fn read_side(alloc: Global, c: u32, bytes: &[u8]) -> Result<(Side, &[u8]), Stop>
 {
     let rest = after(bytes, b"tree ")?;
     let (tree, rest) = read_tree(alloc, c, rest)?;
-    let rest = after(rest, b"\norder")?;
+    let (order, rest) = read_order(alloc, rest)?;
+    Ok((Side { tree, order }, rest))
+}
+
+// The order of a side, one number or more.
+#[tactic(auto, unfolding(crate::specs::Reading::order_at))]
+fn read_order(alloc: Global, bytes: &[u8]) -> Result<(Vec<u32>, &[u8]), Stop>
+    ensures { Gives numbers_seen result (order_at bytes.now) }
+{
+    let rest = after(bytes, b"\norder")?;
     let (order, rest) = read_numbers(alloc, rest)?;
     let rest = after(rest, b"\n")?;
     if order.is_empty() {
         return Err(Stop::Outside);
     }
-    Ok((Side { tree, order }, rest))
+    Ok((order, rest))
 }
 
 // The tree over 1 to c that stands before the first line feed.

@@ -1,14 +1,29 @@
-use Rattle.std.proofs.Common.{◌≡◌, ℕ, ◌+◌, ◌-◌, ◌*◌, ◌<◌, ◌≤◌, List, length, take, arith}
+use Rattle.std.proofs.Common.{◌≡◌, ◌∙◌, ℕ, ◌+◌, ◌-◌, ◌*◌, ◌<◌, ◌≤◌, List, length, take, subst, arith}
 use Rattle.std.proofs.lemmas.List.{take_all}
 use Rattle.pq_tree.specs.Amortised.{weight}
 use Rattle.c1p_solve.proofs.Orders.{some_order, valid_front}
 use Rattle.row_model.specs.Graph.{row_at}
+use Rattle.template_theory.specs.Frugal.{IsFrugal}
 use Rattle.c1p_solve.specs.Totals.{reduction_steps, search_steps}
-use Rattle.c1p_solve.proofs.Sums.{IsPaidSoFar, all_taken, one_refused, one_failed, first_steps, refused_cost}
+use Rattle.c1p_solve.proofs.Sums.{IsPaidSoFar, all_taken, one_taken, one_refused, one_failed, first_steps, refused_cost}
 use Rattle.c1p_solve.proofs.solver.reduce_all.Goals as goal
 
 pub loop-taken-init : goal.loop-taken-init
 loop-taken-init g c = record { columns = c.requires.columns; tied = c.requires.tied; order = some_order c.args.m.now.columns; paid = λ f h. omega (arith, h) }
+
+pub loop-taken-preserved : goal.loop-taken-preserved
+loop-taken-preserved g c =
+    let m = c.args.m.now in
+    let inside : c.loop-taken.taken + 1 ≤ length m.rows = omega (arith, c.loop-taken-test.true, c.loop-taken.auto.taken-end, c.rows-taken-end.ensures) in
+    let t = g.R.Reducer.outline c.loop-taken.reducer in
+    let u = g.R.Reducer.outline c.reduce.new.self in
+    record {
+      columns = c.reduce.ensures.columns ∙ c.loop-taken.invariant.columns;
+      tied = c.in_ok-reduce.ensures.taken c.in-Taken.is;
+      order = c.in_ok-reduce.ensures.order c.in-Taken.is;
+      paid = λ f h. one_taken m.columns m.rows c.loop-taken.taken (weight t) (weight u) c.args.steps.now c.loop-taken.steps c.reduce.new.steps (omega (arith, inside)) (c.loop-taken.invariant.paid f h)
+          (subst (IsFrugal (row_at m.rows (c.loop-taken.taken + 1)) t u c.loop-taken.steps c.reduce.new.steps) c.in-Taken.is (c.in_ok-reduce.ensures.frugal f));
+    }
 
 pub returns-clause-reduction : goal.returns-clause-reduction
 returns-clause-reduction g c =

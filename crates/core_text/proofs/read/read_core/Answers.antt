@@ -1,15 +1,7 @@
-use Rattle.std.proofs.Common.{◌≡◌, ◌∙◌, true, false, eqb, length, Some, sym, ap}
-use Rattle.core_text.proofs.CoreLaws.{chain, zipped, at_end, before_end}
+use Rattle.std.proofs.Common.{sym, subst}
+use Rattle.text_parts.specs.Seen.{Gives}
+use Rattle.core_text.proofs.CoreLaws.{head_chain}
 use Rattle.core_text.proofs.read.read_core.Goals as goal
 
-pub returns-then-not-is_empty : goal.returns-then-not-is_empty
-returns-then-not-is_empty c =
-    let more : eqb (length c.in_ok-rest-3.rest.now) 0 ≡ false = sym c.is_empty.ensures ∙ c.if-not-is_empty.true in
-    chain _ _ _ _ _ _ _ _ _ _ _ _ c.in_ok-rest.ensures c.in_ok-kind.ensures c.in_ok-rest-2.ensures c.in_ok-columns.ensures.value c.in_ok-entries.ensures.value c.in_ok-lines.ensures c.in_ok-rest-3.ensures
-    ∙ before_end _ _ more
-
 pub returns : goal.returns
-returns c =
-    let done : eqb (length c.in_ok-rest-3.rest.now) 0 ≡ true = sym c.is_empty.ensures ∙ c.if-not-is_empty.false in
-    chain _ _ _ _ _ _ _ _ _ _ _ _ c.in_ok-rest.ensures c.in_ok-kind.ensures c.in_ok-rest-2.ensures c.in_ok-columns.ensures.value c.in_ok-entries.ensures.value c.in_ok-lines.ensures c.in_ok-rest-3.ensures
-    ∙ at_end _ _ done ∙ ap Some (zipped _ _ _ _ _ c.in_ok-entries.ensures.each)
+returns c = subst (Gives (λ t. t) c.read_parts.result) (sym (head_chain _ _ _ _ _ _ _ c.in_ok-rest.ensures c.in_ok-kind.ensures c.in_ok-rest-2.ensures c.in_ok-columns.ensures.value)) c.read_parts.ensures

@@ -1,4 +1,6 @@
+use Rattle.std.proofs.Common.{◌≤◌, length, subst, sym}
 use Rattle.incompat_graph.proofs.links.spread.Goals as goal
+use Rattle.incompat_graph.proofs.links.spread.Goals.{then-eq+in_ok-odd+in_default-2, else-eq}
 
 pub loop-way-init : goal.loop-way-init
 loop-way-init c = c.requires.few.1
@@ -10,7 +12,10 @@ pub loop-other-init : goal.loop-other-init
 loop-other-init c = c.loop-way.invariant
 
 pub loop-other-preserved : goal.loop-other-preserved
-loop-other-preserved c = c.loop-other.invariant
+loop-other-preserved c = elim c.if-eq.branch [
+  | then-eq+in_ok-odd+in_default-2 w ↦ subst (λ r. length r.items ≤ 32) (sym w.reached-is) w.reach.ensures.few
+  | else-eq w ↦ subst (λ r. length r.items ≤ 32) (sym w.reached-is) c.loop-other.invariant
+]
 
 pub returns : goal.returns
 returns c = record { few = c.loop-way.invariant; within = tt }
@@ -18,5 +23,8 @@ returns c = record { few = c.loop-way.invariant; within = tt }
 pub returns-in_default : goal.returns-in_default
 returns-in_default c = record { few = c.requires.few.1; within = tt }
 
-pub returns-in-Some-place_among-clause-few : goal.returns-in-Some-place_among-clause-few
-returns-in-Some-place_among-clause-few c = c.loop-other.invariant
+pub returns-in-Some-2-clause-few : goal.returns-in-Some-2-clause-few
+returns-in-Some-2-clause-few c = c.reach.ensures.few
+
+pub returns-in_err-odd-clause-few : goal.returns-in_err-odd-clause-few
+returns-in_err-odd-clause-few c = c.reach.ensures.few

@@ -1,12 +1,8 @@
-use Rattle.std.proofs.Common.{◌≡◌, codes, true, Some, refl, sym, ap, ◌∙◌, arith}
-use Rattle.std.specs.Str.{bytes_eq}
+use Rattle.std.proofs.Common.{Some, refl, ap, ◌∙◌, arith}
 use Rattle.json.specs.Json.{parse_map}
-use Rattle.json.proofs.Grammar.{left_some, left_none}
 use Rattle.serde_json.specs.Data.{no_members, put}
-use Rattle.matrix_read.specs.JsonSteps.{value_at}
-use Rattle.matrix_read.specs.CloneNames.{array_strings, member_probes, names_view}
+use Rattle.matrix_read.specs.CloneNames.{member_probes}
 use Rattle.matrix_read.proofs.MemberLemmas.{fewer_left, none_found, no_key, no_value, one_more, no_more}
-use Rattle.matrix_read.proofs.FileLemmas.{mapped_some, probes_put, probes_kept}
 use Rattle.matrix_read.proofs.clone_names.read_probes.Goals as goal
 
 pub loop-probes-init : goal.loop-probes-init
@@ -17,33 +13,17 @@ returns-in_err-key-clause-err c refused =
     let s = c.loop-probes.invariant in
     no_key _ _ _ s.0 s.1 c.in_err-key.ensures.value
 
-pub returns-in_err-probes-clause-err : goal.returns-in_err-probes-clause-err
-returns-in_err-probes-clause-err c refused =
+pub returns-in_err-read_probes_at-clause-err : goal.returns-in_err-read_probes_at-clause-err
+returns-in_err-read_probes_at-clause-err c refused =
     let s = c.loop-probes.invariant in
-    no_value _ _ _ c.next_key.new.self s.0 s.1 c.in-Some.key.now (rw c.in-Some.is at c.in_ok-key.ensures.value) (c.read_names.ensures.err (grind (arith, refused)))
-
-pub returns-in_err-pass-clause-err : goal.returns-in_err-pass-clause-err
-returns-in_err-pass-clause-err c refused =
-    let s = c.loop-probes.invariant in
-    let next = c.next_key.new.self in
-    no_value _ _ _ next s.0 s.1 c.in-Some.key.now (rw c.in-Some.is at c.in_ok-key.ensures.value) (left_none (value_at c.args.depth next) c.in_err-pass.ensures.value)
-
-pub loop-probes-preserved-then-eq : goal.loop-probes-preserved-then-eq
-loop-probes-preserved-then-eq c =
-    let s = c.loop-probes.invariant in
-    let k = c.in-Some.key.now in
-    let next = c.next_key.new.self in
-    let named : bytes_eq k (codes "probes") ≡ true = sym c.if-eq.ensures in
-    let m = mapped_some array_strings (value_at c.args.depth next) (names_view c.in_ok-probes.probes) _ c.in_ok-probes.ensures.ok in
-    (put k m.0 s.0, one_more _ _ _ next s.0 s.1 k _ m.0 (rw c.in-Some.is at c.in_ok-key.ensures.value) m.1 c.in_ok-probes.ensures.shorter, probes_put k m.0 s.0 named ∙ m.2)
+    no_value _ _ _ c.next_key.new.self s.0 s.1 c.in-Some.key.now (rw c.in-Some.is at c.in_ok-key.ensures.value) (c.read_probes_at.ensures.err (grind (arith, refused)))
 
 pub loop-probes-preserved : goal.loop-probes-preserved
 loop-probes-preserved c =
     let s = c.loop-probes.invariant in
     let k = c.in-Some.key.now in
-    let next = c.next_key.new.self in
-    let x = left_some (value_at c.args.depth next) _ c.in_ok-pass.ensures.value in
-    (put k x.0 s.0, one_more _ _ _ next s.0 s.1 k _ x.0 (rw c.in-Some.is at c.in_ok-key.ensures.value) x.1 c.in_ok-pass.ensures.shorter, probes_kept k x.0 s.0 (sym c.if-eq.ensures) ∙ s.2)
+    let m = c.in_ok-read_probes_at.ensures.ok in
+    (put k m.value s.0, one_more _ _ _ c.next_key.new.self s.0 s.1 k _ m.value (rw c.in-Some.is at c.in_ok-key.ensures.value) m.is c.in_ok-read_probes_at.ensures.shorter, m.names s.0 s.2)
 
 pub returns-clause-ok : goal.returns-clause-ok
 returns-clause-ok c =
@@ -53,8 +33,4 @@ returns-clause-ok c =
 
 pub loop-probes-smaller : goal.loop-probes-smaller
 loop-probes-smaller c =
-    fewer_left c.loop-probes.reader c.next_key.new.self c.pass.new.reader c.in-Some.key.now (rw c.in-Some.is at c.in_ok-key.ensures.value) c.in_ok-pass.ensures.shorter
-
-pub loop-probes-smaller-then-eq : goal.loop-probes-smaller-then-eq
-loop-probes-smaller-then-eq c =
-    fewer_left c.loop-probes.reader c.next_key.new.self c.read_names.new.reader c.in-Some.key.now (rw c.in-Some.is at c.in_ok-key.ensures.value) c.in_ok-probes.ensures.shorter
+    fewer_left c.loop-probes.reader c.next_key.new.self c.read_probes_at.new.reader c.in-Some.key.now (rw c.in-Some.is at c.in_ok-key.ensures.value) c.in_ok-read_probes_at.ensures.shorter

@@ -10,7 +10,7 @@ pub returns-in-Err : goal.returns-in-Err
 returns-in-Err c =
     let probes = bytes_of c.args.names.now.keys in
     let step = clones_drop c.args.clones.now c.loop-i.i c.index-clones-i.result c.loop-i-test.true c.index-clones-i.is in
-    c.refused.ensures ∙ sym (clone_stop probes c.loop-i.matrix.rows (c.loop-i.i + 1) _ _ _ step c.in-Err.code c.in-Err.ensures.refused) ∙ c.loop-i.invariant.so_far
+    sym (clone_stop probes c.loop-i.matrix.rows (c.loop-i.i + 1) _ _ _ step c.in-Err.code c.in-Err.ensures.refused) ∙ c.loop-i.invariant.so_far
 
 pub push_row-requires-clause-row : goal.push_row-requires-clause-row
 push_row-requires-clause-row c =

@@ -1,5 +1,5 @@
 use Rattle.std.proofs.Common.{◌≡◌, ◌-◌, [], ◌∷◌, length, Some, None, sym, ap, ap₂, ◌∙◌, arith}
-use Rattle.json.specs.Json.{after_end_array, read_key, value}
+use Rattle.json.specs.Json.{read_key, value}
 use Rattle.json.specs.Reads.{token_of}
 use Rattle.json.proofs.Grammar.{left-parse_map, left_some, left_none, value_is, after_end_array-shorter, read_key-shorter}
 use Rattle.serde_json.specs.Data.{array, object, no_items, item, no_members, put}
@@ -13,33 +13,25 @@ use Rattle.matrix_read.proofs.passing.+pass.Goals as goal
 pub pass_items-loop-reader-init : goal.pass_items-loop-reader-init
 pass_items-loop-reader-init t c = (no_items, none_read c.args.depth c.args.reader.now)
 
-pub pass_items-returns-in_err-token-clause-value : goal.pass_items-returns-in_err-token-clause-value
-pass_items-returns-in_err-token-clause-value t c =
-    let s = c.loop-reader.invariant in
-    let going : (after_end_array c.loop-reader.reader ≡ None) × (c.take_end_array.new.self ≡ c.loop-reader.reader) = c.loop-reader-test.ensures in
-    let empty : c.take_end_array.new.self ≡ [] = (rw c.in_err-token.ensures.ok_part at c.next.ensures.value).0 in
-    let none = ap behind (no_item _ _ _ s.0 s.1 going.0 (ap (value_at c.args.depth) (sym going.1 ∙ empty) ∙ nothing_at_front c.args.depth)) in
-    grind (arith, none)
-
 pub pass_items-loop-reader-smaller : goal.pass_items-loop-reader-smaller
-pass_items-loop-reader-smaller t c =
-    let first : c.loop-reader.reader ≡ token_of c.in_ok-token.token ∷ c.next.new.self = sym c.loop-reader-test.ensures.1 ∙ (rw c.in_ok-token.ensures.ok_part at c.next.ensures.value) in
-    omega (arith, ap length first, c.in_ok-pass_value.ensures.shorter)
+pass_items-loop-reader-smaller t c = omega (arith, ap length c.loop-reader-test.ensures.1, c.in_ok-pass.ensures.shorter)
 
 pub pass_items-loop-reader-preserved : goal.pass_items-loop-reader-preserved
 pass_items-loop-reader-preserved t c =
     let d = c.args.depth in
+    let left = c.loop-reader.reader in
     let s = c.loop-reader.invariant in
-    let first : c.loop-reader.reader ≡ token_of c.in_ok-token.token ∷ c.next.new.self = sym c.loop-reader-test.ensures.1 ∙ (rw c.in_ok-token.ensures.ok_part at c.next.ensures.value) in
-    let x = left_some (value_at d c.loop-reader.reader) _ (ap (λ ts. behind (value_at d ts)) first ∙ c.in_ok-pass_value.ensures.value) in
-    (joined s.0 (item x.0 no_items), one_item _ _ _ s.0 s.1 _ x.0 c.loop-reader-test.ensures.0 x.1 (omega (arith, ap length first, c.in_ok-pass_value.ensures.shorter)))
+    let same : c.take_end_array.new.self ≡ left = c.loop-reader-test.ensures.1 in
+    let x = left_some (value_at d left) _ (ap (λ ts. behind (value_at d ts)) (sym same) ∙ c.in_ok-pass.ensures.value) in
+    (joined s.0 (item x.0 no_items), one_item _ _ _ s.0 s.1 _ x.0 c.loop-reader-test.ensures.0 x.1 (omega (arith, ap length same, c.in_ok-pass.ensures.shorter)))
 
-pub pass_items-returns-in_err-pass_value-clause-value : goal.pass_items-returns-in_err-pass_value-clause-value
-pass_items-returns-in_err-pass_value-clause-value t c =
+pub pass_items-returns-in_err-pass-clause-value : goal.pass_items-returns-in_err-pass-clause-value
+pass_items-returns-in_err-pass-clause-value t c =
     let d = c.args.depth in
+    let left = c.loop-reader.reader in
     let s = c.loop-reader.invariant in
-    let first : c.loop-reader.reader ≡ token_of c.in_ok-token.token ∷ c.next.new.self = sym c.loop-reader-test.ensures.1 ∙ (rw c.in_ok-token.ensures.ok_part at c.next.ensures.value) in
-    let none = ap behind (no_item _ _ _ s.0 s.1 c.loop-reader-test.ensures.0 (left_none (value_at d c.loop-reader.reader) (ap (λ ts. behind (value_at d ts)) first ∙ c.in_err-pass_value.ensures.value))) in
+    let same : c.take_end_array.new.self ≡ left = c.loop-reader-test.ensures.1 in
+    let none = ap behind (no_item _ _ _ s.0 s.1 c.loop-reader-test.ensures.0 (left_none (value_at d left) (ap (λ ts. behind (value_at d ts)) (sym same) ∙ c.in_err-pass.ensures.value))) in
     grind (arith, none)
 
 pub pass_items-returns-clause-value : goal.pass_items-returns-clause-value
@@ -58,39 +50,26 @@ pass_members-returns-in_err-next_key-clause-value t c =
     let none = ap behind (no_key _ _ _ s.0 s.1 c.in_err-next_key.ensures.value) in
     grind (arith, none)
 
-pub pass_members-returns-in_err-token-clause-value : goal.pass_members-returns-in_err-token-clause-value
-pass_members-returns-in_err-token-clause-value t c =
-    let s = c.loop-reader.invariant in
-    let next = c.next_key.new.self in
-    let empty : next ≡ [] = (rw c.in_err-token.ensures.ok_part at c.next.ensures.value).0 in
-    let none = ap behind (no_value _ _ _ next s.0 s.1 c.in-Some.field-0.now (rw c.in-Some.is at c.in_ok-next_key.ensures.value) (ap (value_at c.args.depth) empty ∙ nothing_at_front c.args.depth)) in
-    grind (arith, none)
-
 pub pass_members-loop-reader-smaller : goal.pass_members-loop-reader-smaller
 pass_members-loop-reader-smaller t c =
     let k = c.in-Some.field-0.now in
     let next = c.next_key.new.self in
     let key : read_key c.loop-reader.reader ≡ Some (Some k, next) = (rw c.in-Some.is at c.in_ok-next_key.ensures.value) in
-    let first : next ≡ token_of c.in_ok-token.token ∷ c.next.new.self = (rw c.in_ok-token.ensures.ok_part at c.next.ensures.value) in
-    omega (arith, read_key-shorter c.loop-reader.reader (Some k) next key, ap length first, c.in_ok-pass_value.ensures.shorter)
+    omega (arith, read_key-shorter c.loop-reader.reader (Some k) next key, c.in_ok-pass.ensures.shorter)
 
 pub pass_members-loop-reader-preserved : goal.pass_members-loop-reader-preserved
 pass_members-loop-reader-preserved t c =
-    let d = c.args.depth in
     let s = c.loop-reader.invariant in
     let k = c.in-Some.field-0.now in
     let next = c.next_key.new.self in
-    let first : next ≡ token_of c.in_ok-token.token ∷ c.next.new.self = (rw c.in_ok-token.ensures.ok_part at c.next.ensures.value) in
-    let x = left_some (value_at d next) _ (ap (λ ts. behind (value_at d ts)) first ∙ c.in_ok-pass_value.ensures.value) in
-    (put k x.0 s.0, one_more _ _ _ next s.0 s.1 k _ x.0 (rw c.in-Some.is at c.in_ok-next_key.ensures.value) x.1 (omega (arith, ap length first, c.in_ok-pass_value.ensures.shorter)))
+    let x = left_some (value_at c.args.depth next) _ c.in_ok-pass.ensures.value in
+    (put k x.0 s.0, one_more _ _ _ next s.0 s.1 k _ x.0 (rw c.in-Some.is at c.in_ok-next_key.ensures.value) x.1 c.in_ok-pass.ensures.shorter)
 
-pub pass_members-returns-in_err-pass_value-clause-value : goal.pass_members-returns-in_err-pass_value-clause-value
-pass_members-returns-in_err-pass_value-clause-value t c =
-    let d = c.args.depth in
+pub pass_members-returns-in_err-pass-clause-value : goal.pass_members-returns-in_err-pass-clause-value
+pass_members-returns-in_err-pass-clause-value t c =
     let s = c.loop-reader.invariant in
     let next = c.next_key.new.self in
-    let first : next ≡ token_of c.in_ok-token.token ∷ c.next.new.self = (rw c.in_ok-token.ensures.ok_part at c.next.ensures.value) in
-    let nothing = left_none (value_at d next) (ap (λ ts. behind (value_at d ts)) first ∙ c.in_err-pass_value.ensures.value) in
+    let nothing = left_none (value_at c.args.depth next) c.in_err-pass.ensures.value in
     let none = ap behind (no_value _ _ _ next s.0 s.1 c.in-Some.field-0.now (rw c.in-Some.is at c.in_ok-next_key.ensures.value) nothing) in
     grind (arith, none)
 
@@ -142,3 +121,10 @@ pass_value-returns-else-depth-eq0-2-clause-value t c =
     let same : behind (value_at d (token_of c.args.token ∷ r)) ≡ behind (members_at (d - 1) (length r) no_members r) =
     ap (λ token. behind (value_at d (token_of token ∷ r))) c.in-BeginObject.is ∙ ap behind (object_at_front d r (omega arith)) ∙ left-parse_map object (members_at (d - 1) (length r) no_members r) in
     rw same c.pass_members.ensures.value
+
+pub pass-returns-in_err-token-clause-value : goal.pass-returns-in_err-token-clause-value
+pass-returns-in_err-token-clause-value t c =
+    let d = c.args.depth in
+    let empty : c.args.reader.now ≡ [] = (rw c.in_err-token.ensures.ok_part at c.next.ensures.value).0 in
+    let none : behind (value_at d c.args.reader.now) ≡ None = ap (λ ts. behind (value_at d ts)) empty ∙ ap behind (nothing_at_front d) in
+    grind (arith, none)

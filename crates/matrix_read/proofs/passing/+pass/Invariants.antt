@@ -4,14 +4,17 @@ use Rattle.matrix_read.proofs.ItemLemmas.{AreItems}
 use Rattle.matrix_read.proofs.MemberLemmas.{AreFound}
 use Rattle.matrix_read.proofs.passing.+pass.Given as goal
 
+abbrev pub decreases-pass : goal.decreases-pass
+decreases-pass l = 3 * l.depth + 1
+
 abbrev pub decreases-pass_value : goal.decreases-pass_value
-decreases-pass_value l = 2 * l.depth
+decreases-pass_value l = 3 * l.depth
 
 abbrev pub decreases-pass_items : goal.decreases-pass_items
-decreases-pass_items l = 2 * l.depth + 1
+decreases-pass_items l = 3 * l.depth + 2
 
 abbrev pub decreases-pass_members : goal.decreases-pass_members
-decreases-pass_members l = 2 * l.depth + 1
+decreases-pass_members l = 3 * l.depth + 2
 
 abbrev pub invariant-pass_items-loop-reader : goal.invariant-pass_items-loop-reader
 invariant-pass_items-loop-reader l = (found : Items) × AreItems l.depth l.initial.reader l.reader found

@@ -9,7 +9,7 @@ use Rattle.order_list.specs.Reading.{Reads, CanBegin}
 use Rattle.order_list.specs.Ways.{Leads}
 use Rattle.order_list.proofs.Links.{trees-Nothing, trees-InAnyOrder, within-InAnyOrder, weight-InAnyOrder, within-Forwards, weight-Forwards, within-Backwards, weight-Backwards}
 use Rattle.order_list.specs.declared.walk.Coming.{Forwards, Backwards}
-use Rattle.std.proofs.lemmas.Result.{on_ok_weaker}
+use Rattle.std.proofs.lemmas.Result.{on_ok_weaker, IfOk-from_err}
 use Rattle.order_list.specs.Weights.{walk_weight, walk_weights, weight_within}
 use Rattle.order_list.proofs.Gaining.{Below, gains_same, gains_only, gains_none, gains_one, ready_pushed}
 use Rattle.order_list.proofs.Steps.{popped, pushed_on, next_gains, last_gains, all_gains, ready_moved, gains_moved, same_trees, same_leaf, same_none, same_one, same_bag, leaf_first, same_p}
@@ -557,3 +557,53 @@ take-returns-then-place-eq0-clause-columns t c = c.open.ensures.columns
 
 pub take-returns-in_ok-others-clause-columns : goal.take-returns-in_ok-others-clause-columns
 take-returns-in_ok-others-clause-columns t c = c.open-else-place-eq0.ensures.columns
+
+pub read_tree-returns-clause-columns : goal.read_tree-returns-clause-columns
+read_tree-returns-clause-columns t c =
+    popped c.args.columns.now.items c.pop.new.self.items c.read_on.new.columns.items c.push.new.self.items c.in-Leaf.column (vec_len c.read_on.new.columns)
+    c.in_ok-read_on.ensures.columns c.in_ok-push.ensures.items (omega (arith, c.read_on.new.columns.ok.0)) c.pop.ensures.rest
+
+pub each_next-returns-then-more-clause-columns : goal.each_next-returns-then-more-clause-columns
+each_next-returns-then-more-clause-columns t c =
+    let x = c.in-Some.next.column in
+    let pushed = pushed_on c.args.columns.now.items c.loop-next.columns.items c.push.new.self.items x c.loop-next.invariant.columns c.in_ok-push.ensures.items in
+    popped c.args.columns.now.items c.pop.new.self.items c.take.new.columns.items c.push.new.self.items x (vec_len c.take.new.columns) c.in_ok-take.ensures.columns pushed
+    (omega (arith, c.take.new.columns.ok.0)) c.pop.ensures.rest
+
+pub each_next-returns-in_default-clause-columns : goal.each_next-returns-in_default-clause-columns
+each_next-returns-in_default-clause-columns t c = c.loop-next.invariant.columns
+
+pub read_tree-returns-in_err-push : goal.read_tree-returns-in_err-push
+read_tree-returns-in_err-push t c =
+    let none = c.from_residual.ensures.0 in
+    record { columns = IfOk-from_err c.from_residual.result _ none; found = IfOk-from_err c.from_residual.result _ none }
+
+pub read_tree-returns-in_err-read_on : goal.read_tree-returns-in_err-read_on
+read_tree-returns-in_err-read_on t c =
+    let none = c.from_residual-in_err-read_on.ensures.0 in
+    record { columns = IfOk-from_err c.from_residual-in_err-read_on.result _ none; found = IfOk-from_err c.from_residual-in_err-read_on.result _ none }
+
+pub each_next-returns-in_err-push : goal.each_next-returns-in_err-push
+each_next-returns-in_err-push t c =
+    let none = c.from_residual.ensures.0 in
+    record { columns = IfOk-from_err c.from_residual.result _ none; found = IfOk-from_err c.from_residual.result _ none }
+
+pub each_next-returns-in_err-places : goal.each_next-returns-in_err-places
+each_next-returns-in_err-places t c =
+    let none = c.from_residual-in_err-places.ensures.0 in
+    record { columns = IfOk-from_err c.from_residual-in_err-places.result _ none; found = IfOk-from_err c.from_residual-in_err-places.result _ none }
+
+pub each_next-returns-in_err-take : goal.each_next-returns-in_err-take
+each_next-returns-in_err-take t c =
+    let none = c.from_residual-in_err-take.ensures.0 in
+    record { columns = IfOk-from_err c.from_residual-in_err-take.result _ none; found = IfOk-from_err c.from_residual-in_err-take.result _ none }
+
+pub take-returns-in_err-others : goal.take-returns-in_err-others
+take-returns-in_err-others t c =
+    let none = c.from_residual.ensures.0 in
+    record { columns = IfOk-from_err c.from_residual.result _ none; found = IfOk-from_err c.from_residual.result _ none }
+
+pub open-returns-in_err-trees-in-P : goal.open-returns-in_err-trees-in-P
+open-returns-in_err-trees-in-P t c =
+    let none = c.from_residual.ensures.0 in
+    record { columns = IfOk-from_err c.from_residual.result _ none; found = IfOk-from_err c.from_residual.result _ none }

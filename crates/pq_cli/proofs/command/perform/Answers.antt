@@ -1,4 +1,4 @@
-use Rattle.std.proofs.Common.{◌≡◌, ℕ, List, [], ◌∷◌, refl, inl, sym, arith, rules}
+use Rattle.std.proofs.Common.{◌≡◌, ℕ, List, [], ◌∷◌, refl, inl, sym, subst, arith, rules}
 use Rattle.std.specs.Prelude.{Ok}
 use Rattle.std.specs.declared.alloc.AllocError.{AllocError}
 use Rattle.pq_io.specs.Whole.{IsWhole}
@@ -6,21 +6,23 @@ use Rattle.row_model.specs.Rows.{RowList}
 use Rattle.row_model.specs.declared.kind.Kind.TheVariants.{Proper}
 use Rattle.instance_model.specs.Instance.{plain, proper}
 use Rattle.instance_model.specs.Value.{instance_value}
-use Rattle.command_input.specs.Words.{Solve, Check, Core, CheckCore, Gen, ListOrders, UnitModel, CheckUnit}
+use Rattle.command_input.specs.Words.{Solve, Check, Core, CheckCore, Gen, ListOrders, UnitModel, CheckUnit, IsInGrammar}
+use Rattle.command_input.specs.Task.{command_seen}
 use Rattle.commands.specs.Judgements.{IsJudgementReply}
 use Rattle.commands.specs.CoreJudgements.{IsCoreJudgementReply}
 use Rattle.commands.specs.Findings.{IsFindingReply}
 use Rattle.verdict_replies.specs.Verdicts.{IsVerdictReply}
 use Rattle.verdict_replies.specs.declared.TheConstants.{MAX_VERDICT_BYTES, MAX_CORE_BYTES}
 use Rattle.solve_replies.specs.Cores.{IsCoreReply}
+use Rattle.solve_replies.specs.Generated.{generated}
 use Rattle.solve_replies.specs.Lists.{IsListReply}
 use Rattle.solve_replies.specs.Models.{IsModelReply}
 use Rattle.reply_laws.specs.Replies.{Replies}
-use Rattle.pq_cli.proofs.Frame.{reply_alone}
+use Rattle.pq_cli.proofs.Frame.{memory_alone, reply_alone}
 use Rattle.solve_replies.specs.Steps.{SolvesMatrixWithin, SolvesWithin, FindsCoreWithin}
 use Rattle.pq_cli.specs.Over.{IsOverInstance}
 use Rattle.pq_cli.proofs.Says.{read_as, same_instance, solves_it, says_made, says_of_both}
-use Rattle.pq_cli.proofs.Counts.{counts_alone, reply_after}
+use Rattle.pq_cli.proofs.Counts.{counts_alone, reply_after, memory_comes_after, memory_status}
 use Rattle.pq_cli.proofs.command.perform.Goals as goal
 
 pub returns-in-Solve : goal.returns-in-Solve
@@ -130,3 +132,46 @@ returns-in_ok-summary_reply-in-Gen g c =
       steps = counts_alone g.F.Shelf.content g.F.Shelf.taken g.F.Shelf.faults c.args.files.now (Gen c.in-Gen.seed c.in-Gen.columns c.in-Gen.rows) (Ok c.in_ok-summary_reply-in-Gen.field-0)
           c.args.steps.now c.summary_reply.new.steps (reply_after c.in_ok-summary_reply-in-Gen.field-0.status (inl reply.status)) reply.steps;
     })
+
+pub returns-in-Extend : goal.returns-in-Extend
+returns-in-Extend g c = rw c.in-Extend.is (record { runs = c.extend_file.ensures.runs; steps = c.extend_file.ensures.steps })
+
+pub returns-in-Meet : goal.returns-in-Meet
+returns-in-Meet g c = rw c.in-Meet.is (record { runs = c.meet_files.ensures.runs; steps = c.meet_files.ensures.steps })
+
+pub returns-in_err-summary_reply-in-Gen : goal.returns-in_err-summary_reply-in-Gen
+returns-in_err-summary_reply-in-Gen g c =
+    let command = Gen c.in-Gen.seed c.in-Gen.columns c.in-Gen.rows in
+    let made = c.from_residual.result in
+    let none = c.from_residual.ensures.1 in
+    rw c.in-Gen.is (record {
+      runs = memory_alone g.F.Shelf.content g.F.Shelf.taken g.F.Shelf.faults c.args.files.now command refl made none;
+      steps = counts_alone g.F.Shelf.content g.F.Shelf.taken g.F.Shelf.faults c.args.files.now command made c.args.steps.now c.summary_reply.new.steps (memory_comes_after made none)
+          (subst (λ status. SolvesMatrixWithin (generated c.in-Gen.seed c.in-Gen.columns c.in-Gen.rows) status c.args.steps.now c.summary_reply.new.steps) (sym (memory_status made none)) c.in_err-summary_reply-in-Gen.ensures.steps);
+    })
+
+-- the numbers and the kinds are within the grammar
+pub extend_file-requires : goal.extend_file-requires
+extend_file-requires g c = subst (λ t. IsInGrammar (command_seen t)) c.in-Extend.is c.requires
+
+pub meet_files-requires : goal.meet_files-requires
+meet_files-requires g c = subst (λ t. IsInGrammar (command_seen t)) c.in-Meet.is c.requires
+
+pub summary_reply-requires : goal.summary_reply-requires
+summary_reply-requires g c =
+    let within = subst (λ t. IsInGrammar (command_seen t)) c.in-Gen.is c.requires in
+    record { columns = (within.0, within.1); rows = within.2 }
+
+pub over_instance-requires : goal.over_instance-requires
+over_instance-requires g c = λ i held. held.0
+
+pub over_instance-requires-in-Core : goal.over_instance-requires-in-Core
+over_instance-requires-in-Core g c = λ i held. (subst (λ t. IsInGrammar (command_seen t)) c.in-Core.is c.requires, held)
+
+pub over_instance-requires-in-ListOrders : goal.over_instance-requires-in-ListOrders
+over_instance-requires-in-ListOrders g c = λ i held.
+    let within = subst (λ t. IsInGrammar (command_seen t)) c.in-ListOrders.is c.requires in
+    (within.0, held, within.1, within.2)
+
+pub over_instance-requires-in-UnitModel : goal.over_instance-requires-in-UnitModel
+over_instance-requires-in-UnitModel g c = λ i held. held

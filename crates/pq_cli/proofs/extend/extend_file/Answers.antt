@@ -1,15 +1,16 @@
 use Rattle.std.specs.Prelude.{Ok}
-use Rattle.std.proofs.Common.{ℕ, [], ◌∷◌, refl, sym, ap, subst, arith}
+use Rattle.std.proofs.Common.{ℕ, [], ◌∷◌, ◌∙◌, refl, sym, ap, subst, arith}
+use Rattle.instance_model.specs.Instance.{plain, IsInstance}
 use Rattle.instance_model.specs.Value.{instance_value}
 use Rattle.command_input.specs.Words.{Extend}
-use Rattle.command_input.specs.Instances.{ReadsInstance, HoldsInstance}
+use Rattle.command_input.specs.Instances.{ReadsInstance, HoldsInstance, IsInstanceOf}
 use Rattle.pq_cli.specs.Further.{ReadsFurther, HoldsFurther}
 use Rattle.reply_laws.specs.Replies.{refused_at, Replies}
 use Rattle.pq_cli.proofs.Frame.{first_stops, second_stops, memory_after_two, reply_after_two}
 use Rattle.solve_replies.specs.Charges.{ExtendsWithin}
 use Rattle.pq_cli.specs.Stops.{reply_status}
 use Rattle.pq_cli.proofs.Bases.{base_read, further_refused, further_accepted, further_read, extends_it}
-use Rattle.pq_cli.proofs.Counts.{reply_after, memory_status, memory_comes_after, counts_after_two}
+use Rattle.pq_cli.proofs.Counts.{counts_none, reply_after, memory_status, memory_comes_after, counts_after_two}
 use Rattle.pq_cli.proofs.extend.extend_file.Goals as goal
 
 pub returns-in_err-base-clause-runs : goal.returns-in_err-base-clause-runs
@@ -80,3 +81,21 @@ returns-clause-steps g c =
     (λ bytes given made over. λ m more is told.
     extends_it c.args.kind c.in-Plain.field-0 bytes given (instance_value c.in_ok-base.field-0) c.in-Plain.base m c.in_ok-further.further more c.columns-columns.result c.in_ok-extension_reply.field-0.status c.args.steps.now c.extension_reply.new.steps
     (ap instance_value c.in-Plain.is) made c.columns-columns.ensures.columns over is told c.in_ok-extension_reply.ensures.steps)
+
+pub returns-in_err-base-clause-steps : goal.returns-in_err-base-clause-steps
+returns-in_err-base-clause-steps g c =
+    counts_none g.F.Shelf.taken c.args.files.now c.read_instance.new.files (Extend c.args.kind c.args.file.now c.args.rows.now) c.from_residual.result _ c.args.steps.now c.from_residual.ensures.1
+
+pub returns-in_err-further-clause-steps : goal.returns-in_err-further-clause-steps
+returns-in_err-further-clause-steps g c =
+    counts_none g.F.Shelf.taken c.args.files.now c.read_file.new.files (Extend c.args.kind c.args.file.now c.args.rows.now) c.from_residual-in_err-further.result _ c.args.steps.now c.from_residual-in_err-further.ensures.1
+
+pub extension_reply-requires : goal.extension_reply-requires
+extension_reply-requires g c =
+    let held = subst (λ i. IsInstanceOf c.args.kind i) c.in-Plain.is c.in_ok-base.ensures.1.holds_of_value in
+    let over = c.in_ok-further.ensures.1.holds_of_value in
+    record {
+      base = subst (λ k. IsInstance (plain k c.in-Plain.base)) held.1 held.0;
+      columns = over.columns ∙ c.columns-columns.ensures.columns;
+      few = over.rows;
+    }

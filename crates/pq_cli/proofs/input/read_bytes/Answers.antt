@@ -1,28 +1,66 @@
-use Rattle.std.proofs.Common.{◌≡◌, [], false, inl, inr, refl, rules}
-use Rattle.pq_cli.proofs.Takings.{took, nothing_fits, part_taken, handed_whole}
+use Rattle.std.proofs.Common.{[], false, inl, inr, refl, arith}
+use Rattle.pq_cli.proofs.Takings.{took, nothing_fits, part_taken, handed_whole, chosen_and_read, choice_fails, choice_faults, choice_lacks, choice_stands, read_faults, read_stands}
 use Rattle.pq_cli.proofs.input.read_bytes.Goals as goal
 
-pub returns-in-Err-NoMemory-clause-whole : goal.returns-in-Err-NoMemory-clause-whole
-returns-in-Err-NoMemory-clause-whole g c =
-    let same : g.F.Shelf.taken c.choose.new.self ≡ g.F.Shelf.taken c.args.files.now = search rules in
-    (took c.args.name.now [] false, record { asks = inr (same, refl); named = refl; told = nothing_fits _ _; whole = tt })
+pub returns-in-Err-Failed : goal.returns-in-Err-Failed
+returns-in-Err-Failed g c =
+    let chosen = c.in-Err-Failed.ensures in
+    record {
+      whole = (took c.args.name.now [] false, record { asks = inl (choice_fails _ _ _ _ c.in-Err-Failed.field-0-is chosen.asked); named = refl; told = nothing_fits _ _; whole = tt });
+      shelf = record { unchanged = chosen.content; later = chosen.cause.later; fault = λ e. choice_faults _ _ _ c.in-Err-Failed.field-0-is chosen.cause.failed; nowhere_else = λ d. refl };
+      stop = tt;
+    }
 
-pub returns-in-Err-Fault-clause-whole : goal.returns-in-Err-Fault-clause-whole
-returns-in-Err-Fault-clause-whole g c =
-    let handed = c.in-Err-Fault.ensures.taken in
-    let part = part_taken _ _ _ _ _ _ _ _ _ c.in-Ok.ensures.asked c.in-Ok.ensures.left handed.2 in
-    (took c.args.name.now handed.0 handed.1, record { asks = inl part.0; named = refl; told = part.1; whole = tt })
+pub returns-in-Err-NoMemory : goal.returns-in-Err-NoMemory
+returns-in-Err-NoMemory g c =
+    let chosen = c.in-Err-NoMemory.ensures in
+    record {
+      whole = (took c.args.name.now [] false, record { asks = inr (choice_lacks _ _ _ _ c.in-Err-NoMemory.field-0-is chosen.asked, refl); named = refl; told = nothing_fits _ _; whole = tt });
+      shelf = record { unchanged = chosen.content; later = chosen.cause.later; fault = λ e. absurd (omega arith); nowhere_else = λ d. absurd (d (choice_stands _ _ _ c.in-Err-NoMemory.field-0-is chosen.told)) };
+      stop = tt;
+    }
 
-pub returns-in-Err-NoMemory-read_all-clause-whole : goal.returns-in-Err-NoMemory-read_all-clause-whole
-returns-in-Err-NoMemory-read_all-clause-whole g c =
-    let handed = c.in-Err-NoMemory-read_all.ensures.taken in
-    let part = part_taken _ _ _ _ _ _ _ _ _ c.in-Ok.ensures.asked c.in-Ok.ensures.left handed.2 in
-    (took c.args.name.now handed.0 handed.1, record { asks = inl part.0; named = refl; told = part.1; whole = tt })
+pub returns-in-Err-Fault : goal.returns-in-Err-Fault
+returns-in-Err-Fault g c =
+    let chosen = c.in-Ok.ensures in
+    let read = c.in-Err-Fault.ensures in
+    let handed = read.taken in
+    let part = part_taken (g.F.Shelf.content c.args.files.now c.args.name.now) (g.F.Shelf.left c.choose.new.self) (g.F.Shelf.left c.read_all.new.shelf) (g.F.Shelf.taken c.args.files.now)
+    (g.F.Shelf.taken c.choose.new.self) (g.F.Shelf.taken c.read_all.new.shelf) c.args.name.now handed.0 handed.1 chosen.asked chosen.left handed.2 in
+    record {
+      whole = (took c.args.name.now handed.0 handed.1, record { asks = inl part.0; named = refl; told = part.1; whole = tt });
+      shelf = chosen_and_read g.F.Shelf.content g.F.Shelf.faults c.args.files.now c.choose.new.self c.read_all.new.shelf 4 chosen.content chosen.told read.content read.cause.later (λ e. read_faults _ _ _ c.in-Err-Fault.field-0-is read.cause.failed) (λ d. refl);
+      stop = tt;
+    }
 
-pub returns-in-Ok-read_all-clause-whole : goal.returns-in-Ok-read_all-clause-whole
-returns-in-Ok-read_all-clause-whole g c =
-    let handed = c.in-Ok-read_all.ensures.taken in
-    let part = part_taken _ _ _ _ _ _ _ _ _ c.in-Ok.ensures.asked c.in-Ok.ensures.left handed.2 in (
-      took c.args.name.now handed.0 handed.1,
-      record { asks = inl part.0; named = refl; told = part.1; whole = handed_whole _ _ _ _ _ handed.3 c.in-Ok-read_all.ensures.within },
-    )
+pub returns-in-Err-NoMemory-read_all : goal.returns-in-Err-NoMemory-read_all
+returns-in-Err-NoMemory-read_all g c =
+    let chosen = c.in-Ok.ensures in
+    let read = c.in-Err-NoMemory-read_all.ensures in
+    let handed = read.taken in
+    let part = part_taken (g.F.Shelf.content c.args.files.now c.args.name.now) (g.F.Shelf.left c.choose.new.self) (g.F.Shelf.left c.read_all.new.shelf) (g.F.Shelf.taken c.args.files.now)
+    (g.F.Shelf.taken c.choose.new.self) (g.F.Shelf.taken c.read_all.new.shelf) c.args.name.now handed.0 handed.1 chosen.asked chosen.left handed.2 in
+    record {
+      whole = (took c.args.name.now handed.0 handed.1, record { asks = inl part.0; named = refl; told = part.1; whole = tt });
+      shelf = chosen_and_read g.F.Shelf.content g.F.Shelf.faults c.args.files.now c.choose.new.self c.read_all.new.shelf 6 chosen.content chosen.told read.content read.cause.later (λ e. absurd (omega arith)) (λ d. absurd (d (read_stands _ _ _ c.in-Err-NoMemory-read_all.field-0-is read.told)));
+      stop = tt;
+    }
+
+pub returns-in-Ok-read_all : goal.returns-in-Ok-read_all
+returns-in-Ok-read_all g c =
+    let chosen = c.in-Ok.ensures in
+    let read = c.in-Ok-read_all.ensures in
+    let handed = read.taken in
+    let part = part_taken (g.F.Shelf.content c.args.files.now c.args.name.now) (g.F.Shelf.left c.choose.new.self) (g.F.Shelf.left c.read_all.new.shelf) (g.F.Shelf.taken c.args.files.now)
+    (g.F.Shelf.taken c.choose.new.self) (g.F.Shelf.taken c.read_all.new.shelf) c.args.name.now handed.0 handed.1 chosen.asked chosen.left handed.2 in
+    record {
+      whole = (
+        took c.args.name.now handed.0 handed.1,
+        record { asks = inl part.0; named = refl; told = part.1; whole = handed_whole _ _ _ _ _ handed.3 read.within },
+      );
+      shelf = chosen_and_read g.F.Shelf.content g.F.Shelf.faults c.args.files.now c.choose.new.self c.read_all.new.shelf 0 chosen.content chosen.told read.content read.cause.later (λ e. absurd (omega arith)) (λ d. absurd (d read.told));
+      stop = tt;
+    }
+
+pub read_all-requires : goal.read_all-requires
+read_all-requires g c = record { limit = c.requires; chosen = c.in-Ok.ensures.chosen }

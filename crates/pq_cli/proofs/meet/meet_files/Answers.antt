@@ -12,7 +12,7 @@ use Rattle.commands.specs.Meetings.{IsMeetingReply}
 use Rattle.reply_laws.specs.Replies.{refused_at, refused_of_two, Replies}
 use Rattle.pq_cli.specs.Stops.{reply_status}
 use Rattle.pq_cli.proofs.Frame.{first_stops, second_stops, memory_after_two, reply_after_two}
-use Rattle.pq_cli.proofs.Counts.{reply_after, memory_status, memory_comes_after, counts_after_two}
+use Rattle.pq_cli.proofs.Counts.{counts_none, reply_after, memory_status, memory_comes_after, counts_after_two}
 use Rattle.pq_cli.proofs.meet.meet_files.Goals as goal
 
 -- the tree that is read
@@ -93,3 +93,17 @@ returns-clause-steps g c =
       shared = c.in_ok-meeting_reply.ensures.yes;
       most = c.meeting_reply.ensures.most;
     }))
+
+pub returns-in_err-one-clause-steps : goal.returns-in_err-one-clause-steps
+returns-in_err-one-clause-steps g c =
+    counts_none g.F.Shelf.taken c.args.files.now c.read_file.new.files (Meet c.args.columns c.args.first.now c.args.second.now) c.from_residual.result _ c.args.steps.now c.from_residual.ensures.1
+
+pub returns-in_err-other-clause-steps : goal.returns-in_err-other-clause-steps
+returns-in_err-other-clause-steps g c =
+    counts_none g.F.Shelf.taken c.args.files.now c.read_file-2.new.files (Meet c.args.columns c.args.first.now c.args.second.now) c.from_residual-in_err-other.result _ c.args.steps.now c.from_residual-in_err-other.ensures.1
+
+pub meeting_reply-requires : goal.meeting_reply-requires
+meeting_reply-requires g c = record {
+  same = c.in_ok-other.ensures.1.holds_of_value ∙ sym c.in_ok-one.ensures.1.holds_of_value;
+  few = omega (arith, c.requires, c.in_ok-one.ensures.1.holds_of_value);
+}

@@ -1,5 +1,5 @@
-use Rattle.std.proofs.Common.{◌≡◌, ◌+◌, ◌≤◌, ◌++◌, [], length, true, false, ℕ, List, take, refl, ap, subst, arith, rules}
-use Rattle.std.proofs.lemmas.List.{with_items_is}
+use Rattle.std.proofs.Common.{◌≡◌, ◌+◌, ◌≤◌, ◌++◌, ◌∙◌, [], length, true, false, ℕ, List, take, refl, ap, sym, subst, arith, rules}
+use Rattle.std.proofs.lemmas.List.{length-take-le, with_items_is}
 use Rattle.std.proofs.lemmas.Result.{err_from_is_err_and}
 use Rattle.std.specs.Vec.{with_items}
 use Rattle.pq_io.proofs.Through.{begin_through, through_more, part_end, made_end, through_over}
@@ -53,9 +53,9 @@ loop-total-preserved-then-filled-full g c =
       within = omega (arith, c.in_ok-next.ensures.left, c.in_ok-n.ensures.room);
       few = omega (arith, c.loop-total.invariant.few, c.in_ok-next.ensures.left);
       small = c.loop-total.invariant.small;
-      told = search rules;
-      chosen = search rules;
-      content = search rules;
+      told = c.in_ok-n.ensures.told ∙ c.loop-total.invariant.told;
+      chosen = c.read_on.ensures.chosen;
+      content = λ other. c.read_on.ensures.content other ∙ c.loop-total.invariant.content other;
       through = (_, through_over _ _ _ _ _ _ _ _ _ _ _ more on);
     }
 
@@ -67,8 +67,73 @@ loop-total-preserved g c =
       within = c.in_ok-n.ensures.room;
       few = omega (arith, c.loop-total.invariant.few);
       small = c.loop-total.invariant.small;
-      told = search rules;
-      chosen = search rules;
-      content = search rules;
+      told = c.in_ok-n.ensures.told ∙ c.loop-total.invariant.told;
+      chosen = c.read_on.ensures.chosen;
+      content = λ other. c.read_on.ensures.content other ∙ c.loop-total.invariant.content other;
       through = (_, through_more _ _ _ _ _ _ _ before.0 _ _ _ _ before.1 c.read_on.ensures.front _ _ c.in_ok-n.ensures.read c.in_ok-n.ensures.taken c.if-n-eq0.false room);
     }
+
+pub read_on-requires-clause-small : goal.read_on-requires-clause-small
+read_on-requires-clause-small g c =
+    omega (arith, c.loop-total.invariant.few, c.loop-total.invariant.small, c.loop-total-test.true)
+
+pub returns-in_err-n-clause-content : goal.returns-in_err-n-clause-content
+returns-in_err-n-clause-content g c =
+    λ other. c.read_on.ensures.content other ∙ c.loop-total.invariant.content other
+
+pub returns-in_err-finish-clause-content : goal.returns-in_err-finish-clause-content
+returns-in_err-finish-clause-content g c =
+    λ other. c.read_on.ensures.content other ∙ c.loop-total.invariant.content other
+
+pub returns-then-n-eq0-clause-content : goal.returns-then-n-eq0-clause-content
+returns-then-n-eq0-clause-content g c =
+    λ other. c.read_on.ensures.content other ∙ c.loop-total.invariant.content other
+
+pub returns-in_err-next-clause-content : goal.returns-in_err-next-clause-content
+returns-in_err-next-clause-content g c =
+    λ other. c.read_on.ensures.content other ∙ c.loop-total.invariant.content other
+
+pub slice_bounds-finish-end : goal.slice_bounds-finish-end
+slice_bounds-finish-end g c =
+    sym (length-take-le _ _ (omega (arith, c.deref.ensures.len, c.in_ok-n.ensures.room)))
+
+pub returns-then-n-eq0-clause-told : goal.returns-then-n-eq0-clause-told
+returns-then-n-eq0-clause-told g c =
+    c.in_ok-n.ensures.told ∙ c.loop-total.invariant.told
+
+pub returns-then-n-eq0-clause-cause : goal.returns-then-n-eq0-clause-cause
+returns-then-n-eq0-clause-cause g c =
+    record { later = omega (arith, c.in_ok-n.ensures.told, c.loop-total.invariant.told); failed = tt }
+
+pub hand_over-requires : goal.hand_over-requires
+hand_over-requires g c =
+    omega (arith, c.deref_mut.ensures.len, c.in_ok-n.ensures.room)
+
+pub overflow_add-filled : goal.overflow_add-filled
+overflow_add-filled g c =
+    omega (arith, c.in_ok-n.ensures.room, c.read_on.new.bytes.small)
+
+pub loop-total-smaller : goal.loop-total-smaller
+loop-total-smaller g c =
+    omega (arith, c.if-n-eq0.false, c.loop-total-test.true)
+
+pub loop-total-smaller-then-filled-full : goal.loop-total-smaller-then-filled-full
+loop-total-smaller-then-filled-full g c =
+    omega (arith, c.if-n-eq0.false, c.loop-total-test.true)
+
+pub overflow_mul-filled : goal.overflow_mul-filled
+overflow_mul-filled g c =
+    omega (arith, c.in_ok-next.ensures.left, c.in_ok-n.ensures.room, c.read_on.new.bytes.small)
+
+pub overflow_add-total : goal.overflow_add-total
+overflow_add-total g c =
+    omega (arith, c.in_ok-n.ensures.room, c.read_on.new.bytes.small, c.loop-total-test.true, c.requires.limit)
+
+pub returns-clause-cause : goal.returns-clause-cause
+returns-clause-cause g c =
+    record { later = omega (arith, c.loop-total.invariant.told); failed = tt }
+
+pub returns-clause-taken : goal.returns-clause-taken
+returns-clause-taken g c =
+    let before = c.loop-total.invariant.through in
+    (before.0, false, before.1.part, omega (arith, before.1.count, c.loop-total-test.false))

@@ -104,3 +104,8 @@ returns-in_err-core-in-No-clause-asked_any g c = let at = goal.at.returns-in_err
 
 pub returns-in_ok-core-in-No-clause-asked_any : goal.returns-in_ok-core-in-No-clause-asked_any
 returns-in_ok-core-in-No-clause-asked_any g c = let at = goal.at.returns-in_ok-core-in-No-clause-asked_any g c in times g at.After-core_among (few g at.In_ok-blamed-in-No)
+
+pub returns-in_ok-core-in-No-clause-cored : goal.returns-in_ok-core-in-No-clause-cored
+returns-in_ok-core-in-No-clause-cored g c =
+    let judgement = rw c.in-No.is at c.in_ok-tree.ensures.judged in
+    (c.in_ok-core-in-No.ensures.core, judgement.1, c.in_ok-core-in-No.ensures.short)

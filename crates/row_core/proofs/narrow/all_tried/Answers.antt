@@ -157,3 +157,23 @@ returns-in_err-push_leaves-in-Ordered-clause-any g c =
     let before = c.rounds.invariant.judgements in
     judged_within g.J.Judge.costs c.args.m.now before.0 1 (c.args.blamed.untried + 1) c.args.steps.now c.rounds.steps c.judged.new.steps
     (tried_one before.0 _ _ _ _ (before.1 c.rounds-test.true) c.rounds-test.true c.rounds.invariant.few c.requires.few) before.3 c.judged.ensures.judgements
+
+pub returns-clause-needed : goal.returns-clause-needed
+returns-clause-needed g c = λ turn start.
+    let none : c.rounds.blamed.untried ≡ 0 = omega (arith, c.rounds-test.false) in
+    subst (AreNeeded c.args.m.now c.rounds.blamed.rows.items) none (c.rounds.invariant.needed turn start)
+
+pub returns-clause-judgements : goal.returns-clause-judgements
+returns-clause-judgements g c =
+    let judged = c.rounds.invariant.judgements in
+    (judged.0, omega (arith, judged.2, c.rounds-test.false), judged.3)
+
+pub rotated_without-requires : goal.rotated_without-requires
+rotated_without-requires g c = omega (arith, c.rounds-test.true, c.rounds.invariant.blamed.few, ap length c.deref.ensures.value)
+
+pub judged-requires-clause-needed : goal.judged-requires-clause-needed
+judged-requires-clause-needed g c =
+    let set = c.rounds.blamed.rows.items in
+    let i = c.rounds.blamed.untried - 1 in
+    let list = c.deref-in-rounds.ensures.value ∙ c.in_ok-others.ensures ∙ ap (λ xs. drop (i + 1) xs ++ take i xs) c.deref.ensures.value in
+    omega (arith, ap length list, length-append (drop (i + 1) set) (take i set), length-drop (i + 1) set, c.len.ensures, c.rounds.blamed.rows.ok, c.rounds-test.true)

@@ -1,7 +1,9 @@
-use Rattle.std.proofs.Common.{◌≡◌, ◌≢◌, [], length, rules, arith}
+use Rattle.std.proofs.Common.{◌≡◌, ◌≢◌, [], length, refl, sym, subst, rules, arith}
+use Rattle.pq_tree.specs.Proper.{IsProper}
+use Rattle.arena_model.specs.NamedTree.{outline_at}
 use Rattle.pq_arena.specs.RowNodes.{indices}
 use Rattle.row_model.specs.Graph.{row_at}
-use Rattle.row_reduce.proofs.GroupDone.{asked, group_moves, group_named, group_taken, group_total, group_below}
+use Rattle.row_reduce.proofs.GroupDone.{asked, group_members, group_moves, group_named, group_taken, group_total, group_below}
 use Rattle.row_reduce.proofs.BesideDone.{beside_moves, beside_some, beside_place, beside_named, beside_taken, beside_total, beside_below}
 use Rattle.row_reduce.specs.Outcome.{AtFoundBetween}
 use Rattle.row_reduce.proofs.BetweenDone.{between_moves, between_total, between_below}
@@ -172,3 +174,106 @@ returns-in-Between-clause-ticks g c = wide_total c.met_law.ensures (row_over c.l
 
 pub returns-in-Between-clause-below : goal.returns-in-Between-clause-below
 returns-in-Between-clause-below g c = λ e. wide_below (row_over c.layout_law.ensures c.requires.tree c.row.ensures.row c.row.ensures.ascending) _ _ (returns-in-Between-clause-root_few g c e)
+
+pub arities_law-requires-clause-one : goal.arities_law-requires-clause-one
+arities_law-requires-clause-one g c = c.requires.tree.one
+
+pub arities_law-requires-clause-proper : goal.arities_law-requires-clause-proper
+arities_law-requires-clause-proper g c = subst (λ n. IsProper n (outline_at c.args.arena.now)) (sym c.requires.tree.columns) c.requires.tree.proper
+
+pub row-requires : goal.row-requires
+row-requires g c = c.requires.tree.within
+
+pub returns-then-is_empty-clause-room : goal.returns-then-is_empty-clause-room
+returns-then-is_empty-clause-room g c = refl
+
+pub returns-then-is_empty-clause-full : goal.returns-then-is_empty-clause-full
+returns-then-is_empty-clause-full g c = refl
+
+pub returns-then-is_empty-clause-ticks : goal.returns-then-is_empty-clause-ticks
+returns-then-is_empty-clause-ticks g c = omega arith
+
+pub returns-then-is_empty-clause-below : goal.returns-then-is_empty-clause-below
+returns-then-is_empty-clause-below g c = λ e. omega arith
+
+pub returns-then-is_empty-clause-few : goal.returns-then-is_empty-clause-few
+returns-then-is_empty-clause-few g c = omega arith
+
+pub returns-then-is_empty-clause-root_few : goal.returns-then-is_empty-clause-root_few
+returns-then-is_empty-clause-root_few g c = λ e. omega arith
+
+pub returns-then-is_empty-clause-empty : goal.returns-then-is_empty-clause-empty
+returns-then-is_empty-clause-empty g c = λ none. (refl, refl, refl)
+
+pub returns-then-is_empty-clause-kept : goal.returns-then-is_empty-clause-kept
+returns-then-is_empty-clause-kept g c = λ kept. (refl, refl)
+
+pub settle-requires-clause-tree : goal.settle-requires-clause-tree
+settle-requires-clause-tree g c = c.requires.tree.one
+
+pub settle-requires-clause-columns : goal.settle-requires-clause-columns
+settle-requires-clause-columns g c = c.requires.tree.columns
+
+pub settle-requires-clause-room : goal.settle-requires-clause-room
+settle-requires-clause-room g c = c.requires.full
+
+pub settle-requires-clause-row : goal.settle-requires-clause-row
+settle-requires-clause-row g c = c.requires.tree.within
+
+pub apply_p2_to-requires-clause-one : goal.apply_p2_to-requires-clause-one
+apply_p2_to-requires-clause-one g c = c.requires.tree.one
+
+pub apply_p2_to-requires-clause-two : goal.apply_p2_to-requires-clause-two
+apply_p2_to-requires-clause-two g c = c.arities_law.ensures
+
+pub apply_p2_to-requires-clause-members : goal.apply_p2_to-requires-clause-members
+apply_p2_to-requires-clause-members g c =
+    group_members c.args.arena.now _ _ _ (group_named c.members.ensures c.in-Group.ensures.settled)
+
+pub divide-requires-clause-one : goal.divide-requires-clause-one
+divide-requires-clause-one g c = c.requires.tree.one
+
+pub divide-requires-clause-two : goal.divide-requires-clause-two
+divide-requires-clause-two g c = c.arities_law.ensures
+
+pub divide_both-requires-clause-one : goal.divide_both-requires-clause-one
+divide_both-requires-clause-one g c = c.requires.tree.one
+
+pub divide_both-requires-clause-two : goal.divide_both-requires-clause-two
+divide_both-requires-clause-two g c = c.arities_law.ensures
+
+pub reduce_by_templates-requires-clause-tree : goal.reduce_by_templates-requires-clause-tree
+reduce_by_templates-requires-clause-tree g c = c.requires.tree
+
+pub reduce_by_templates-requires-clause-room : goal.reduce_by_templates-requires-clause-room
+reduce_by_templates-requires-clause-room g c = c.requires.room
+
+pub reduce_by_templates-requires-clause-chosen : goal.reduce_by_templates-requires-clause-chosen
+reduce_by_templates-requires-clause-chosen g c = c.requires.chosen
+
+pub returns-in-Kept-clause-room : goal.returns-in-Kept-clause-room
+returns-in-Kept-clause-room g c = refl
+
+pub returns-in-Kept-clause-full : goal.returns-in-Kept-clause-full
+returns-in-Kept-clause-full g c = c.settle.ensures.room
+
+pub returns-in-Kept-clause-kept : goal.returns-in-Kept-clause-kept
+returns-in-Kept-clause-kept g c = λ kept. (refl, refl)
+
+pub returns-in-Group-clause-room : goal.returns-in-Group-clause-room
+returns-in-Group-clause-room g c = refl
+
+pub returns-in-Group-clause-full : goal.returns-in-Group-clause-full
+returns-in-Group-clause-full g c = c.settle.ensures.room
+
+pub returns-in-Beside-clause-room : goal.returns-in-Beside-clause-room
+returns-in-Beside-clause-room g c = refl
+
+pub returns-in-Beside-clause-full : goal.returns-in-Beside-clause-full
+returns-in-Beside-clause-full g c = c.settle.ensures.room
+
+pub returns-in-Between-clause-room : goal.returns-in-Between-clause-room
+returns-in-Between-clause-room g c = refl
+
+pub returns-in-Between-clause-full : goal.returns-in-Between-clause-full
+returns-in-Between-clause-full g c = c.settle.ensures.room

@@ -1,5 +1,7 @@
 use Rattle.std.proofs.Common.{refl, sym, subst, ◌∙◌, arith}
+use Rattle.pq_tree.specs.Proper.{IsProper}
 use Rattle.arena_model.specs.Layout.{Layout}
+use Rattle.arena_model.specs.NamedTree.{outline_at}
 use Rattle.row_model.specs.Graph.{row_at}
 use Rattle.pq_arena.specs.RowNodes.{column_leaves}
 use Rattle.full_pass.specs.Answer.{IsRowKept}
@@ -81,3 +83,45 @@ returns-in-Inside-clause-kept g c = λ kept.
 pub returns-in-Split-clause-kept : goal.returns-in-Split-clause-kept
 returns-in-Split-clause-kept g c = λ kept.
     (taken_kept c.reduce_law.ensures.kept c.reduce_law.ensures.refused (row_over c.layout_law.ensures c.requires.tree c.row-row.ensures.row c.row-row.ensures.ascending) c.arities_law.ensures kept c.bubble.new.arena Refused (returns-in-Split-clause-outcome g c), c.bubble.ensures.arena)
+
+pub arities_law-requires-clause-one : goal.arities_law-requires-clause-one
+arities_law-requires-clause-one g c = c.requires.tree.one
+
+pub arities_law-requires-clause-proper : goal.arities_law-requires-clause-proper
+arities_law-requires-clause-proper g c = subst (λ n. IsProper n (outline_at c.args.arena.now)) (sym c.requires.tree.columns) c.requires.tree.proper
+
+pub row-row-requires : goal.row-row-requires
+row-row-requires g c = c.requires.tree.within
+
+pub bubble-requires-clause-tree : goal.bubble-requires-clause-tree
+bubble-requires-clause-tree g c = c.requires.tree.one
+
+pub bubble-requires-clause-inner : goal.bubble-requires-clause-inner
+bubble-requires-clause-inner g c = c.arities_law.ensures
+
+pub bubble-requires-clause-columns : goal.bubble-requires-clause-columns
+bubble-requires-clause-columns g c = c.requires.tree.columns
+
+pub bubble-requires-clause-room : goal.bubble-requires-clause-room
+bubble-requires-clause-room g c = c.requires.room
+
+pub bubble-requires-clause-row : goal.bubble-requires-clause-row
+bubble-requires-clause-row g c = c.requires.tree.within
+
+pub bubble-requires-clause-some : goal.bubble-requires-clause-some
+bubble-requires-clause-some g c = c.requires.some
+
+pub returns-in-Root-clause-room : goal.returns-in-Root-clause-room
+returns-in-Root-clause-room g c = c.reduce_root.ensures.room ∙ c.bubble.ensures.room
+
+pub returns-in-Inside-clause-room : goal.returns-in-Inside-clause-room
+returns-in-Inside-clause-room g c = c.reduce_inside.ensures.room ∙ c.bubble.ensures.room
+
+pub returns-in-Split-clause-room : goal.returns-in-Split-clause-room
+returns-in-Split-clause-room g c = c.bubble.ensures.room
+
+pub returns-in-Split-clause-ticks : goal.returns-in-Split-clause-ticks
+returns-in-Split-clause-ticks g c = let few = c.bubble.ensures.few in omega (arith, few)
+
+pub returns-in-Split-clause-below : goal.returns-in-Split-clause-below
+returns-in-Split-clause-below g c = λ e. absurd (cc)

@@ -1,4 +1,5 @@
-use Rattle.std.proofs.Common.{◌∙◌, refl, sym, ap, subst}
+use Rattle.std.proofs.Common.{◌≡◌, ◌⊎◌, ◌∙◌, inl, inr, refl, sym, ap, subst}
+use Rattle.std.proofs.lemmas.Result.{IfOk-from_err, IfOk-weaker}
 use Rattle.instance_model.specs.Instance.{derived_matrix, IsInstance}
 use Rattle.instance_model.specs.Value.{instance_value}
 use Rattle.row_core.specs.Cored.{IsCored}
@@ -47,3 +48,24 @@ pub returns-in_err-core-clause-steps : goal.returns-in_err-core-clause-steps
 returns-in_err-core-clause-steps g c = λ m is.
     subst (λ k. FindsCoreWithin k (made_status (λ reply. reply.status) c.from_residual.result) c.args.steps.now c.find_core.new.steps) (ap (λ i. derived_matrix i 1) (sym (ap instance_value c.in-Plain.is) ∙ is))
     (failed_within c.in-Plain.m c.from_residual.result _ c.args.steps.now c.find_core.new.steps c.from_residual.ensures.1 (c.find_core.ensures.any refl))
+
+pub returns-in_err-core-clause-reply : goal.returns-in_err-core-clause-reply
+returns-in_err-core-clause-reply g c = IfOk-from_err c.from_residual.result _ c.from_residual.ensures.0
+
+pub returns-in_err-core-clause-status : goal.returns-in_err-core-clause-status
+returns-in_err-core-clause-status g c = IfOk-from_err c.from_residual.result _ c.from_residual.ensures.0
+
+pub returns-in-Core-clause-status : goal.returns-in-Core-clause-status
+returns-in-Core-clause-status g c =
+    IfOk-weaker c.core_reply.result (λ reply. reply.status ≡ 0) (λ reply. (reply.status ≡ 0) ⊎ (reply.status ≡ 1)) (λ reply e. inl e) c.core_reply.ensures.status
+
+pub returns-in-Has-clause-status : goal.returns-in-Has-clause-status
+returns-in-Has-clause-status g c =
+    IfOk-weaker c.yes_reply.result (λ reply. reply.status ≡ 1) (λ reply. (reply.status ≡ 0) ⊎ (reply.status ≡ 1)) (λ reply e. inr e) c.yes_reply.ensures.status
+
+pub yes_reply-requires : goal.yes_reply-requires
+yes_reply-requires g c = record {
+  within = c.requires.within;
+  matrix = (c.in-Plain.field-0, ap instance_value c.in-Plain.is);
+  orders = (subst (IsCored c.in-Plain.m) c.in-Has.is c.in_ok-core.ensures.cored).0;
+}

@@ -1,12 +1,13 @@
-use Rattle.std.proofs.Common.{◌≡◌, ℕ, ◌+◌, ◌<◌, ◌≤◌, List, [], ◌∷◌, ◌++◌, length, sum_by, take, ap, subst, arith}
+use Rattle.std.proofs.Common.{◌≡◌, ℕ, ◌+◌, ◌<◌, ◌≤◌, List, [], ◌∷◌, ◌++◌, length, sum_by, take, ◌∙◌, refl, sym, ap, subst, append-nil, arith}
 use Rattle.std.proofs.lemmas.List.{length-take-le, take_all}
 use Rattle.std.proofs.lemmas.List.Sums.{sum_by_push, sum_by-take-le}
 use Rattle.pq_tree.specs.Amortised.{weight}
+use Rattle.row_model.specs.Rows.{IsRow}
 use Rattle.row_model.proofs.Pushed.{take_next}
 use Rattle.solve_replies.specs.Taking.{HasTaken}
 use Rattle.solve_replies.proofs.MetNodes.{met_after}
 use Rattle.solve_replies.proofs.Sessions.{taken_more, on_the_way}
-use Rattle.solve_replies.proofs.Charges.{IsCharged, charged_more, charged_failed, charged_all, charged_most}
+use Rattle.solve_replies.proofs.Charges.{IsCharged, charged_more, charged_failed, charged_all, charged_most, charged_none}
 use Rattle.solve_replies.proofs.session.print_outcomes.Goals as goal
 
 -- the ones of the rows so far and of the next are some of all
@@ -63,3 +64,25 @@ returns-in_err-refusals-clause-most g c =
     charged_failed c.args.session.now.matrix rows (take n rows) c.loop-taken.session.matrix c.take_one.new.session.matrix row c.loop-taken.refusals c.loop-taken.invariant.so_far.0 (weight c.args.session.now.tree)
     c.args.steps.now c.loop-taken.steps c.loop-taken.session.tree c.take_one.new.session.tree (room rows n row (take_next rows n row c.row-row.ensures.row)) c.loop-taken.invariant.so_far.2
     c.take_one.new.steps (omega (arith, inside, length-take-le n rows (omega (arith, inside)))) c.take_one.ensures.most
+
+pub take_one-requires : goal.take_one-requires
+take_one-requires g c =
+    let way = c.loop-taken.invariant.way in
+    record {
+      row = subst (λ n. IsRow n c.row-row.result.now) (c.requires.columns ∙ sym way.columns) c.row-row.ensures.ascending;
+      room = omega (arith, way.rows, c.requires.room, c.loop-taken-test.true, c.rows-taken-end.ensures);
+      few = omega (arith, way.few);
+    }
+
+pub loop-taken-init : goal.loop-taken-init
+loop-taken-init g c =
+    let m = c.args.session.now.matrix in
+    let text = c.args.text.now.items in
+    record {
+      way = record { columns = refl; rows = omega arith; few = omega arith };
+      so_far = (
+        0,
+        record { outcomes = []; in_turn = tt; matrix_is = refl; count_is = refl; are_met = refl; text_is = sym (append-nil text) },
+        charged_none m c.args.further.now.rows (weight c.args.session.now.tree) c.args.steps.now,
+      );
+    }

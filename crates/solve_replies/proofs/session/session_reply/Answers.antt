@@ -1,4 +1,5 @@
-use Rattle.std.proofs.Common.{◌∙◌, ℕ, ◌+◌, ◌*◌, ◌≤◌, min, subst}
+use Rattle.std.proofs.Common.{◌∙◌, ℕ, ◌+◌, ◌*◌, ◌≤◌, min, subst, arith}
+use Rattle.std.proofs.lemmas.Result.{IfOk-from_err}
 use Rattle.pq_tree.specs.Amortised.{weight}
 use Rattle.row_model.specs.Rows.{RowList}
 use Rattle.solve_replies.specs.Charges.{refused_steps, further_search}
@@ -27,3 +28,33 @@ returns-clause-steps g c =
       subst (λ k. ends k (refusals_at_end 0 told.outcomes)) told.matrix_is (subst (ends c.print_outcomes.new.session.matrix) told.count_is all.3),
       (all.1, told.are_met, subst (λ k. exact k (refusals_at_end 0 told.outcomes)) told.matrix_is (subst (exact c.print_outcomes.new.session.matrix) told.count_is all.4)),
     )
+
+pub returns-clause-most : goal.returns-clause-most
+returns-clause-most g c = c.print_outcomes.ensures.most
+
+pub print_outcomes-requires : goal.print_outcomes-requires
+print_outcomes-requires g c = record { columns = c.requires.columns; room = c.requires.room }
+
+pub returns-in_err-text : goal.returns-in_err-text
+returns-in_err-text g c =
+    let made = c.from_residual.result in
+    let none = c.from_residual.ensures.0 in
+    record { reply = IfOk-from_err made _ none; status = IfOk-from_err made _ none; steps = IfOk-from_err made _ none; most = omega arith }
+
+pub returns-in_err-print_start : goal.returns-in_err-print_start
+returns-in_err-print_start g c =
+    let made = c.from_residual-in_err-print_start.result in
+    let none = c.from_residual-in_err-print_start.ensures.0 in
+    record { reply = IfOk-from_err made _ none; status = IfOk-from_err made _ none; steps = IfOk-from_err made _ none; most = omega arith }
+
+pub returns-in_err-print_outcomes : goal.returns-in_err-print_outcomes
+returns-in_err-print_outcomes g c =
+    let made = c.from_residual-in_err-print_outcomes.result in
+    let none = c.from_residual-in_err-print_outcomes.ensures.0 in
+    record { reply = IfOk-from_err made _ none; status = IfOk-from_err made _ none; steps = IfOk-from_err made _ none; most = c.print_outcomes.ensures.most }
+
+pub returns-in_err-print_end : goal.returns-in_err-print_end
+returns-in_err-print_end g c =
+    let made = c.from_residual-in_err-print_end.result in
+    let none = c.from_residual-in_err-print_end.ensures.0 in
+    record { reply = IfOk-from_err made _ none; status = IfOk-from_err made _ none; steps = IfOk-from_err made _ none; most = c.print_outcomes.ensures.most }

@@ -8,6 +8,9 @@ use Rattle.verdict_text.specs.Verdict.{no_claim}
 use Rattle.instance_model.specs.Instance.{InstanceValue, instance_columns, derived_matrix}
 use Rattle.instance_model.specs.Value.{instance_value}
 use Rattle.verdict_replies.specs.Verdicts.{HasOrder, IsFirstWithout, IsClaimOf}
+use Rattle.std.proofs.lemmas.Result.{IfOk-from_err}
+use Rattle.solve_replies.specs.Steps.{part_status}
+use Rattle.solve_replies.proofs.Centres.{unmade_within}
 use Rattle.solve_replies.proofs.verdicts.two_sided.Goals as goal
 
 second_no : (i : InstanceValue) (side : ℕ) (lines cycle : List Line) → side ≡ 2 → lines ≡ cycle → length (instance_columns i) ≡ 2 → HasOrder i 1 → IsAnswer (derived_matrix i 2) (No cycle)
@@ -26,3 +29,30 @@ returns-in-No-clause-claim g c =
     let answer = subst (IsAnswer (derived_matrix i 2)) c.in-No.is c.in_ok-cycle.ensures.answer in
     let first = subst (IsInTurn (derived_matrix i 2)) c.in-No.is c.in_ok-cycle.ensures.in_turn in
     second_no i c.no.result.side c.no.result.lines c.in-No.cycle c.no.ensures.side c.no.ensures.lines c.requires.sides c.requires.orders.1 answer first
+
+pub returns-in_err-cycle : goal.returns-in_err-cycle
+returns-in_err-cycle g c =
+    let made = c.from_residual.result in
+    let none = c.from_residual.ensures in
+    record {
+      claim = IfOk-from_err made _ none.0;
+      steps = unmade_within part_status made _ (derived_matrix (instance_value c.args.instance.now) 2) c.args.steps.now c.solve_side.new.steps none.1 c.solve_side.ensures.steps.most;
+    }
+
+pub returns-in_err-first_order-in-Yes : goal.returns-in_err-first_order-in-Yes
+returns-in_err-first_order-in-Yes g c =
+    let made = c.from_residual-in_err-first_order-in-Yes.result in
+    let none = c.from_residual-in_err-first_order-in-Yes.ensures in
+    record {
+      claim = IfOk-from_err made _ none.0;
+      steps = unmade_within part_status made _ (derived_matrix (instance_value c.args.instance.now) 2) c.args.steps.now c.solve_side.new.steps none.1 c.solve_side.ensures.steps.most;
+    }
+
+pub returns-in_err-second_order-in-Yes : goal.returns-in_err-second_order-in-Yes
+returns-in_err-second_order-in-Yes g c =
+    let made = c.from_residual-in_err-second_order-in-Yes.result in
+    let none = c.from_residual-in_err-second_order-in-Yes.ensures in
+    record {
+      claim = IfOk-from_err made _ none.0;
+      steps = unmade_within part_status made _ (derived_matrix (instance_value c.args.instance.now) 2) c.args.steps.now c.solve_side.new.steps none.1 c.solve_side.ensures.steps.most;
+    }

@@ -5,7 +5,7 @@ use Rattle.row_model.specs.declared.graph.Why.TheVariants.{Flip}
 use Rattle.row_model.specs.Graph.{IsPair}
 use Rattle.verdict_check.specs.Chains.{AreChains}
 use Rattle.verdict_check.proofs.Lines.{pair_here}
-use Rattle.verdict_check.proofs.ChainLaws.{chains_more}
+use Rattle.verdict_check.proofs.ChainLaws.{chains_more, column_within}
 use Rattle.verdict_check.proofs.chains.chains_of.Goals as goal
 
 pub loop-i-preserved : goal.loop-i-preserved
@@ -30,3 +30,18 @@ loop-i-preserved c =
 
 pub returns-clause-chains : goal.returns-clause-chains
 returns-clause-chains c = subst (λ k. AreChains c.args.lines.now k c.loop-i.firsts.items c.loop-i.nexts.items) (omega (arith, c.loop-i-test.false)) c.loop-i.invariant.chains
+
+pub index-requires : goal.index-requires
+index-requires c = column_within c.args.c (c.loop-i.i - 1) _ c.args.lines.now _ (omega (arith, c.loop-i-test.true, c.loop-i.invariant.within)) c.requires.pairs (omega (arith, c.loop-i.firsts.ok.0, c.loop-i.invariant.columns))
+
+pub index_mut-requires : goal.index_mut-requires
+index_mut-requires c = omega (arith, c.loop-i-test.true, c.loop-i.invariant.within, c.loop-i.invariant.chains.long)
+
+pub index_mut-requires-in-loop-i : goal.index_mut-requires-in-loop-i
+index_mut-requires-in-loop-i c = column_within c.args.c (c.loop-i.i - 1) _ c.args.lines.now _ (omega (arith, c.loop-i-test.true, c.loop-i.invariant.within)) c.requires.pairs (omega (arith, c.loop-i.firsts.ok.0, c.loop-i.invariant.columns))
+
+pub overflow_cast-i : goal.overflow_cast-i
+overflow_cast-i c = omega (arith, c.requires.few, c.loop-i.invariant.within)
+
+pub bounds-lines-i : goal.bounds-lines-i
+bounds-lines-i c = omega (arith, c.loop-i-test.true, c.loop-i.invariant.within)

@@ -1,8 +1,9 @@
-use Rattle.std.proofs.Common.{ℕ, ◌≤◌, get_or, arith}
+use Rattle.std.proofs.Common.{◌≡◌, ◌∙◌, ℕ, ◌+◌, ◌≤◌, ◌++◌, length, take, drop, get_or, refl, sym, ap, subst, arith}
+use Rattle.std.specs.List.{All}
 use Rattle.row_model.specs.Graph.{IsPair}
 use Rattle.verdict_check.specs.NoTests.{PassesRepeat}
 use Rattle.verdict_check.proofs.Lines.{pair_here}
-use Rattle.verdict_check.proofs.ChainLaws.{all_passed}
+use Rattle.verdict_check.proofs.ChainLaws.{all_passed, given_back, zeros_low, none_tested, least_fails, tested_more}
 use Rattle.verdict_check.proofs.repeats.first_repeat_by_chains.Goals as goal
 
 pub least_in_chain-least-requires-clause-pairs : goal.least_in_chain-least-requires-clause-pairs
@@ -25,3 +26,26 @@ pub returns : goal.returns
 returns c = λ k l m.
     all_passed c.args.c c.loop-a.least c.args.lines.now c.requires.pairs c.loop-a.invariant.bound
     (λ i d u v. c.loop-a.invariant.passed i d u (omega (arith, v, c.loop-a-test.false))) k l (omega (arith, m, c.if-least-lines.false))
+
+pub loop-a-init : goal.loop-a-init
+loop-a-init c = record {
+  bound = omega arith;
+  long = omega (arith, c.in_ok-stamps.ensures.len, c.in_ok-stamps.stamps.ok.0);
+  stamps = subst (All (λ stamp. stamp ≤ 0)) (sym (c.in_ok-stamps.ensures.items_if_clones_equal (λ y e. e))) (zeros_low _);
+  fails = λ n. absurd (n refl);
+  passed = none_tested c.args.c c.args.lines.now c.requires.pairs;
+}
+
+pub loop-a-preserved : goal.loop-a-preserved
+loop-a-preserved c =
+    let new = c.least_in_chain-least.new.stamps in
+    let found = c.least_in_chain-least.ensures in
+    let long : length new ≡ c.args.c + 1 = omega (arith, found.length, c.deref_mut.ensures.len, c.loop-a.invariant.long) in
+    let back : take c.loop-a.stamps.len (new ++ drop (length new) c.loop-a.stamps.items) ≡ new = given_back _ new _ (omega (arith, c.loop-a.stamps.ok.0, long, c.loop-a.invariant.long)) in
+    record {
+      bound = omega (arith, found.bound, c.loop-a.invariant.bound);
+      long = ap length back ∙ long;
+      stamps = subst (All (λ stamp. stamp ≤ c.loop-a.a + 1)) (sym back) found.stamps;
+      fails = least_fails c.loop-a.least c.least_in_chain-least.result c.args.lines.now found.fails c.loop-a.invariant.fails;
+      passed = tested_more c.loop-a.a c.loop-a.least c.least_in_chain-least.result c.args.lines.now found.bound found.passed c.loop-a.invariant.passed;
+    }

@@ -29,3 +29,13 @@ returns c =
     let same : c.index.result.now ≡ down.last = same_Some c.index.result.now down.last (sym there ∙ down.last_there) in
     let is : line ≡ record { pair = down.last.pair; why = c.args.conflict.why } = ap (λ (n : Node). record { pair = n.pair; why = c.args.conflict.why }) same in
     λ k rows s. rw c.from_lines.ensures (closing_walk c.args.forest.now c.args.conflict c.in_ok-lines.lines.items up.0 c.add_way_up.new.lines.items line down up.2 all k rows s is odd)
+
+pub way_down-requires-clause-node : goal.way_down-requires-clause-node
+way_down-requires-clause-node c =
+    let ends = c.requires.ends in
+    (ends.from_in, slice_get_within c.args.forest.now.nodes.items c.args.conflict.from ends.from ends.from_there)
+
+pub add_way_up-requires-clause-node : goal.add_way_up-requires-clause-node
+add_way_up-requires-clause-node c =
+    let ends = c.requires.ends in
+    (ends.to_in, slice_get_within c.args.forest.now.nodes.items c.args.conflict.to ends.to ends.to_there)

@@ -1,12 +1,31 @@
-use Rattle.std.proofs.Common.{◌≡◌, ◌∙◌, ◌+◌, drop, length, slice_get, Some, refl, ap, subst, arith}
-use Rattle.std.proofs.lemmas.List.{length-map}
+use Rattle.std.proofs.Common.{◌≡◌, ◌∙◌, ◌+◌, ◌∷◌, ◌++◌, [], ℕ, List, Vec, Global, drop, length, replicate, slice_get, Some, refl, ap, subst, arith}
+use Rattle.std.proofs.lemmas.List.{length-map, map-append, replicate_more}
 use Rattle.std.proofs.lemmas.Option.{slice_get_within}
 use Rattle.row_model.specs.Graph.{row_at}
 use Rattle.walk_search.specs.Holders.{without}
-use Rattle.walk_search.proofs.HolderLaws.{lists_of, HoldersSoFar, holders_begin, holders_end, holders_more, further_same, further_member, further_there, ones_part}
+use Rattle.walk_search.proofs.HolderLaws.{lists_of, HoldersSoFar, holders_none, holders_begin, holders_end, holders_more, further_same, further_member, further_there, ones_part}
 use Rattle.pair_classes.proofs.Items.{item_end, none_of}
 use Rattle.pair_classes.proofs.RowOnes.{ones_more}
 use Rattle.walk_search.proofs.holders.rows_by_column.Goals as goal
+
+pub loop-preserved : goal.loop-preserved
+loop-preserved g c =
+    let none : List ℕ = [] in
+    let pushed = map-append (λ (list : Vec ℕ Global). list.items) c.loop.holders.items (c.new.result ∷ []) in
+    record {
+      lists = ap lists_of c.in_ok-push.ensures.items ∙ pushed ∙ ap (λ (ls : List (List ℕ)). ls ++ c.new.result.items ∷ []) c.loop.invariant.lists
+          ∙ ap (λ (x : List ℕ). replicate c.loop.counter none ++ x ∷ []) c.new.ensures.items ∙ replicate_more c.loop.counter none;
+      counted = omega (arith, c.loop.invariant.counted, c.tick.ensures);
+    }
+
+pub loop-k-init : goal.loop-k-init
+loop-k-init g c =
+    let none : List ℕ = [] in
+    let all : c.loop.counter ≡ c.args.m.now.columns = omega (arith, c.loop.auto.counter-end, c.loop-test.false, c.columns-end.ensures.columns) in
+    record {
+      holders = holders_none (without c.args.first c.args.m.now) (lists_of c.loop.holders.items) (c.loop.invariant.lists ∙ ap (λ n. replicate n none) all);
+      counted = omega arith;
+    }
 
 pub loop-column-init : goal.loop-column-init
 loop-column-init g c =

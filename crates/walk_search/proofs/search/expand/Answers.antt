@@ -1,5 +1,5 @@
 use Rattle.std.proofs.Common.{rules, ◌≡◌, ◌∙◌, ℕ, ◌+◌, ◌-◌, ◌<◌, ◌≤◌, not, Vec, Global, Some, length, take, drop, get_or, slice_get, IsTrue, refl, sym, ap, inl, inr, subst, arith}
-use Rattle.std.proofs.lemmas.Option.{slice_get_read, slice_get-get_or, same_Some}
+use Rattle.std.proofs.lemmas.Option.{slice_get_read, slice_get_within, slice_get-get_or, same_Some}
 use Rattle.std.proofs.lemmas.Bool.{cases_lt}
 use Rattle.std.proofs.lemmas.Grind.{common_steps}
 use Rattle.std.proofs.lemmas.List.{length-map}
@@ -8,7 +8,7 @@ use Rattle.column_order.proofs.Counts.{order_length}
 use Rattle.row_model.specs.Graph.{row_at, turned}
 use Rattle.walk_search.specs.declared.forest.Node.{Node}
 use Rattle.walk_search.specs.Holders.{holders_of}
-use Rattle.walk_search.specs.Search.{IsReached}
+use Rattle.walk_search.specs.Search.{IsReached, ShowsConflict}
 use Rattle.walk_search.specs.Weights.{held_for, weight}
 use Rattle.pair_classes.proofs.Items.{none_of}
 use Rattle.walk_search.proofs.HolderLaws.{lists_of, holder_at}
@@ -176,3 +176,22 @@ returns-clause-turns g c = λ _ node e.
     ] in
     let here : c.args.steps.now + held_for near taken.pair.a ≤ c.loop-row.steps = omega (arith, len, more, c.loop-row.invariant.costs, c.loop-row-test.false) in
     subst (λ (n : Node). c.args.steps.now + held_for near n.pair.a ≤ c.loop-row.steps) (same_Some taken node (sym t.there ∙ e)) here
+
+pub look-requires-clause-search : goal.look-requires-clause-search
+look-requires-clause-search g c = c.loop-row.invariant.expanding.search
+
+pub look-requires-clause-from : goal.look-requires-clause-from
+look-requires-clause-from g c =
+    let old = c.args.forest.now.nodes.items in
+    let nodes = c.loop-row.forest.nodes.items in
+    let node : Node = c.index-node.result.now in
+    let x = c.loop-row.invariant.expanding in
+    let there = (takes g (goal.at.look-requires-clause-from g c).After-index-node).there in
+    let now : slice_get nodes c.args.from ≡ Some node = grown_item c.args.marks.now c.loop-row.marks old nodes c.args.from node x.grows there in
+    (omega (arith, x.root, c.requires.from.0), slice_get_within nodes c.args.from node now)
+
+pub returns-in-Some-2-clause-found : goal.returns-in-Some-2-clause-found
+returns-in-Some-2-clause-found g c =
+    let m = c.args.m.now in
+    let shows = rw c.in-Some-2.is at c.in_ok-conflict-2.ensures.found in
+    subst (λ n. ShowsConflict m.columns (take (c.args.near.now.first + n) m.rows) c.look.new.forest c.in-Some-2.conflict) c.loop-row.invariant.expanding.grows.rows shows

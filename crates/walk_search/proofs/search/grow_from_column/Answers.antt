@@ -5,10 +5,10 @@ use Rattle.column_order.proofs.Counts.{order_length}
 use Rattle.row_model.specs.Graph.{pair, IsPair}
 use Rattle.walk_search.specs.declared.forest.Node.{Node}
 use Rattle.walk_search.specs.Neighbours.{AreNeighbours}
-use Rattle.walk_search.specs.Search.{root_node}
+use Rattle.walk_search.specs.Search.{root_node, ShowsConflict}
 use Rattle.walk_search.specs.Weights.{weights, AreWeighty}
 use Rattle.pair_classes.proofs.Items.{none_of, item_last}
-use Rattle.walk_search.proofs.SettledLaws.{grown_from_none, grown_from_reached, grown_from_tree, planted_search, planted_taken}
+use Rattle.walk_search.proofs.SettledLaws.{grown_from_none, grown_from_same, grown_from_idle, grown_from_reached, grown_from_tree, planted_search, planted_taken}
 use Rattle.walk_search.proofs.WeightLaws.{all_most}
 use Rattle.walk_search.proofs.search.grow_from_column.Given as given
 use Rattle.walk_search.proofs.search.grow_from_column.Goals as goal
@@ -39,6 +39,32 @@ loop-b-preserved-then-get-gt0 g c =
       ticks = omega (arith, c.loop-b.invariant.ticks, c.tick.ensures);
       costs = omega (arith, c.loop-b.invariant.costs, c.tick.ensures);
     }
+
+pub loop-b-preserved-then-pair : goal.loop-b-preserved-then-pair
+loop-b-preserved-then-pair g c =
+    record {
+      grown = grown_from_same c.args.m.now c.args.near.now c.args.marks.now c.loop-b.marks c.args.forest.now c.loop-b.forest c.args.a c.loop-b.b c.loop-b.invariant.grown c.if-pair.true;
+      ticks = omega (arith, c.loop-b.invariant.ticks, c.tick.ensures);
+      costs = omega (arith, c.loop-b.invariant.costs, c.tick.ensures);
+    }
+
+pub loop-b-preserved-then-not-can_join : goal.loop-b-preserved-then-not-can_join
+loop-b-preserved-then-not-can_join g c =
+    let tells = c.can_join.ensures c.args.m.now c.args.marks.now.rows c.requires.near in
+    record {
+      grown = grown_from_idle c.args.m.now c.args.near.now c.args.marks.now c.loop-b.marks c.args.forest.now c.loop-b.forest c.args.a c.loop-b.b c.loop-b.invariant.grown c.can_join.result tells c.if-not-can_join.true;
+      ticks = omega (arith, c.loop-b.invariant.ticks, c.tick.ensures);
+      costs = omega (arith, c.loop-b.invariant.costs, c.tick.ensures);
+    }
+
+pub grow-requires-clause-near : goal.grow-requires-clause-near
+grow-requires-clause-near g c = subst (λ n. AreNeighbours c.args.m.now n c.args.near.now) (sym c.loop-b.invariant.grown.grows.rows) c.requires.near
+
+pub returns-in-Some-clause-found : goal.returns-in-Some-clause-found
+returns-in-Some-clause-found g c =
+    let m = c.args.m.now in
+    let shows = rw c.in-Some.is at c.in_ok-conflict.ensures.found in
+    subst (λ n. ShowsConflict m.columns (take (c.args.near.now.first + n) m.rows) c.grow.new.forest c.in-Some.conflict) c.loop-b.invariant.grown.grows.rows shows
 
 pub returns-in_err-plant-clause-ticks : goal.returns-in_err-plant-clause-ticks
 returns-in_err-plant-clause-ticks g c =

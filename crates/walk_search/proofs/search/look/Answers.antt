@@ -11,7 +11,7 @@ use Rattle.pair_classes.proofs.Items.{held_some, item_end, none_of}
 use Rattle.walk_search.proofs.MarkedOnes.{marked_again, marked_anew}
 use Rattle.walk_search.proofs.ForestLaws.{grown_refl, grown_there}
 use Rattle.walk_search.proofs.HolderLaws.{further_member}
-use Rattle.walk_search.proofs.SearchLaws.{IsSpreading, spreading_turned, next_pair, crossed, spreading_more, looked, spreading_all, further_row}
+use Rattle.walk_search.proofs.SearchLaws.{IsSpreading, spreading_none, spreading_turned, next_pair, crossed, spreading_more, looked, spreading_all, further_row}
 use Rattle.walk_search.proofs.search.look.Given as given
 use Rattle.walk_search.proofs.search.look.Goals as goal
 use Rattle.walk_search.proofs.search.look.Goals.{After-mark, After-has_counted, In-Some, After-next_counted}
@@ -243,3 +243,16 @@ loop-column-smaller-then-column-node g c = omega (arith, read_within g (goal.at.
 
 pub overflow_add-row : goal.overflow_add-row
 overflow_add-row g c = omega (arith, c.requires.search.few, c.requires.search.small)
+
+pub step-requires-clause-indexed : goal.step-requires-clause-indexed
+step-requires-clause-indexed g c = c.loop-column.invariant.spreading.grown.is_forest.indexed
+
+pub loop-column-init : goal.loop-column-init
+loop-column-init g c =
+    let m = c.args.m.now in
+    let first = c.args.near.now.first in
+    record {
+      spreading = spreading_none m.columns (take (first + c.args.marks.now.rows) m.rows) (row_at (drop first m.rows) c.args.further) c.args.forest.now c.index-node.result.now c.requires.search.is_forest;
+      within = omega arith;
+      ticks = omega (arith, c.has_counted.ensures.ticks);
+    }

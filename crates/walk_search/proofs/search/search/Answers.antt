@@ -216,3 +216,15 @@ returns-clause-square g c =
     let whole : (c.args.m.now.columns + 1) * c.args.m.now.columns ≡ c.args.m.now.columns * c.args.m.now.columns + c.args.m.now.columns = grind arith in
     squared c.args.m.now c.args.near.now c.args.further c.requires.near c.requires.rows (omega (arith, range.range.0, range.columns)) c.loop-turn.marks x.count x.search.columns c.args.steps.now c.loop-turn.steps
     (omega (arith, c.loop-turn.invariant.square, all_most c.args.m.now c.args.near.now (take (c.args.near.now.first + c.loop-turn.marks.rows) c.args.m.now.rows) c.loop-turn.forest x.search.is_forest, few, whole, c.loop-turn.auto.turn-end, range.columns))
+
+pub grow_from_column-requires-clause-search : goal.grow_from_column-requires-clause-search
+grow_from_column-requires-clause-search g c = c.loop-turn.invariant.searched.search
+
+pub grow_from_column-requires-clause-taken : goal.grow_from_column-requires-clause-taken
+grow_from_column-requires-clause-taken g c = c.loop-turn.invariant.searched.taken
+
+pub closed_walk-requires-clause-tree : goal.closed_walk-requires-clause-tree
+closed_walk-requires-clause-tree g c = (rw c.in-Some.is at c.in_ok-conflict.ensures.found).is_forest.tree
+
+pub closed_walk-requires-clause-ends : goal.closed_walk-requires-clause-ends
+closed_walk-requires-clause-ends g c = (rw c.in-Some.is at c.in_ok-conflict.ensures.found).is_conflict.ends

@@ -8,18 +8,23 @@ use Rattle.pair_classes.proofs.Items.{none_of, item_end, has_item}
 use Rattle.walk_search.proofs.HolderLaws.{further_same}
 use Rattle.walk_search.proofs.WeightLaws.{row_weighty}
 use Rattle.walk_search.proofs.NearLaws.{followed}
-use Rattle.walk_search.proofs.EndLaws.{searched_none, along_none, along_all}
+use Rattle.walk_search.proofs.EndLaws.{IsSearched, searched_none, along_none, along_all}
 use Rattle.walk_search.proofs.search.search_along.Given as given
 use Rattle.walk_search.proofs.search.search_along.Goals as goal
-use Rattle.walk_search.proofs.search.search_along.Goals.{After-grow_from_column}
+use Rattle.walk_search.proofs.search.search_along.Goals.{In_ok-forest, After-grow_from_column}
+
+-- nothing is reached yet
+begun : (g : given.Over) (c : In_ok-forest g) → IsSearched c.args.m.now c.args.near.now 1 c.in_ok-marks.marks c.in_ok-forest.forest 0
+begun g c =
+    let same = c.columns-columns.ensures.columns in
+    searched_none c.args.m.now c.args.near.now 1 c.in_ok-marks.marks c.in_ok-forest.forest c.requires.rows c.columns-columns.ensures.few_rows c.in_ok-marks.ensures.0 (c.in_ok-marks.ensures.1 ∙ same) c.in_ok-marks.ensures.2 (c.in_ok-forest.ensures.0 ∙ same)
+    c.in_ok-forest.ensures.1 c.in_ok-forest.ensures.2 c.in_ok-forest.ensures.3
 
 pub returns-in_default-clause-found : goal.returns-in_default-clause-found
 returns-in_default-clause-found g c =
     let m = c.args.m.now in
     let near = c.args.near.now in
-    let same = c.columns-columns.ensures.columns in
-    let x = searched_none c.args.m.now c.args.near.now 1 c.in_ok-marks.marks c.in_ok-forest.forest c.requires.rows c.columns-columns.ensures.few_rows c.in_ok-marks.ensures.0 (c.in_ok-marks.ensures.1 ∙ same) c.in_ok-marks.ensures.2 (c.in_ok-forest.ensures.0 ∙ same)
-    c.in_ok-forest.ensures.1 c.in_ok-forest.ensures.2 c.in_ok-forest.ensures.3 in
+    let x = begun g (goal.at.returns-in_default-clause-found g c).In_ok-forest in
     let row = row_at m.rows (near.first + 1) in
     let none = none_of c.next_counted.result c.in_default.not-Some in
     let empty : row_at (drop near.first m.rows) 1 ≡ [] = further_same m.rows near.first 1 (near.first + 1) (omega arith) (omega arith) ∙ nil_from_length row (omega (arith, item_end row 0 (c.next_counted.ensures.column ∙ none))) in
@@ -73,3 +78,18 @@ returns-clause-found g c =
     let shows = rw c.in-Some-2.is at c.in_ok-grow_from_column.ensures.found in
     subst (λ n. IsOddWalk c.args.m.now.columns (take (c.args.near.now.first + n) c.args.m.now.rows) c.in_ok-closed_walk-in-Some-2.field-0) start
     (c.in_ok-closed_walk-in-Some-2.ensures c.args.m.now.columns (take (c.args.near.now.first + c.in_ok-marks.marks.rows) c.args.m.now.rows) shows)
+
+pub grow_from_column-requires-clause-search : goal.grow_from_column-requires-clause-search
+grow_from_column-requires-clause-search g c = (begun g (goal.at.grow_from_column-requires-clause-search g c).In_ok-forest).search
+
+pub grow_from_column-requires-clause-near : goal.grow_from_column-requires-clause-near
+grow_from_column-requires-clause-near g c = subst (λ n. AreNeighbours c.args.m.now n c.args.near.now) (sym c.in_ok-marks.ensures.0) c.requires.near
+
+pub grow_from_column-requires-clause-taken : goal.grow_from_column-requires-clause-taken
+grow_from_column-requires-clause-taken g c = (begun g (goal.at.grow_from_column-requires-clause-taken g c).In_ok-forest).taken
+
+pub closed_walk-requires-clause-tree : goal.closed_walk-requires-clause-tree
+closed_walk-requires-clause-tree g c = (rw c.in-Some-2.is at c.in_ok-grow_from_column.ensures.found).is_forest.tree
+
+pub closed_walk-requires-clause-ends : goal.closed_walk-requires-clause-ends
+closed_walk-requires-clause-ends g c = (rw c.in-Some-2.is at c.in_ok-grow_from_column.ensures.found).is_conflict.ends

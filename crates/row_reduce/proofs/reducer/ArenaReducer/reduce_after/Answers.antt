@@ -1,4 +1,4 @@
-use Rattle.std.proofs.Common.{◌≡◌, ℕ, List, sym, ap, subst, ◌∙◌}
+use Rattle.std.proofs.Common.{◌≡◌, ℕ, ◌+◌, ◌*◌, ◌≤◌, List, length, sym, ap, subst, ◌∙◌}
 use Rattle.std.specs.List.{length_refill}
 use Rattle.template_theory.specs.Reduced.{IsReduced}
 use Rattle.template_theory.specs.Frugal.{IsFrugal}
@@ -6,6 +6,7 @@ use Rattle.template_theory.specs.declared.reducer.Step.TheVariants.{Taken}
 use Rattle.row_model.specs.Graph.{row_at}
 use Rattle.arena_model.specs.Layout.{Layout}
 use Rattle.arena_model.specs.NamedTree.{outline_at}
+use Rattle.pq_tree.specs.Amortised.{nodes_met, nodes_met_below_root}
 use Rattle.pq_tree.specs.Proper.{IsProper}
 use Rattle.pq_tree.proofs.Equivalent.{tree_from_proper}
 use Rattle.pq_arena.specs.RowNodes.{column_leaves}
@@ -19,6 +20,10 @@ use Rattle.row_reduce.proofs.Staying.{StaysTree, row_reduced, row_refused, reduc
 use Rattle.row_reduce.proofs.Taking.{AtRow, row_kept, row_order, row_conflict, row_none}
 use Rattle.row_reduce.proofs.reducer.ArenaReducer.reduce_after.Given.{Over}
 use Rattle.row_reduce.proofs.reducer.ArenaReducer.reduce_after.Goals as goal
+
+-- the arena is the one that was given
+same : (g : Over) (c : goal.After-layout_law-2 g) → c.self.inside.arena ≡ c.args.self.now
+same g c = cc
 
 -- the row, and the tree with some rows to which it is tied
 at_row : (g : Over) (c : goal.After-layout_law-2 g) (rows : List (List ℕ)) → IsTied c.args.m.now.columns rows (outline_at c.args.self.now) → AtRow c.args.m.now.columns rows (row_at c.args.m.now.rows c.args.k) (outline_at c.self.inside.arena)
@@ -121,3 +126,44 @@ returns-clause-in_place g c =
     let row = row_at c.args.m.now.rows c.args.k in
     subst (λ (z : Layout). IsInPlace (column_leaves row) z c.reduce_arena-step.new.arena) e
     (row_in_place row c.self.inside.arena c.reduce_arena-step.new.arena c.reduce_arena-step.result c.reduce_arena-step.ensures.outcome)
+
+pub row-row-requires : goal.row-row-requires
+row-row-requires g c = c.requires.row
+
+pub reduce_arena-step-requires-clause-room : goal.reduce_arena-step-requires-clause-room
+reduce_arena-step-requires-clause-room g c = c.self.invariant.room
+
+pub reduce_arena-step-requires-clause-full : goal.reduce_arena-step-requires-clause-full
+reduce_arena-step-requires-clause-full g c = c.self.invariant.full
+
+pub returns-clause-columns : goal.returns-clause-columns
+returns-clause-columns g c = (stays g c).columns ∙ ap (λ (z : Layout). z.columns) (same g c)
+
+pub returns-clause-ticks : goal.returns-clause-ticks
+returns-clause-ticks g c =
+    let row = row_at c.args.m.now.rows c.args.k in
+    subst (λ (z : Layout). c.reduce_arena-step.new.steps ≤ c.args.steps.now + 256 * (nodes_met row (outline_at z) + 1)) (same g c)
+    c.reduce_arena-step.ensures.ticks
+
+pub returns-clause-below : goal.returns-clause-below
+returns-clause-below g c =
+    let row = row_at c.args.m.now.rows c.args.k in
+    subst (λ (z : Layout). c.reduce_arena-step.result ≡ Taken → c.reduce_arena-step.new.steps ≤ c.args.steps.now + 4 * length row + 252 * (nodes_met_below_root row (outline_at z) + 1)) (same g c)
+    c.reduce_arena-step.ensures.below
+
+pub returns-clause-few : goal.returns-clause-few
+returns-clause-few g c =
+    let row = row_at c.args.m.now.rows c.args.k in
+    subst (λ (z : Layout). c.reduce_arena-step.new.steps ≤ c.args.steps.now + 8 * length row + 36 * nodes_met row (outline_at z) + 6) (same g c)
+    c.reduce_arena-step.ensures.few
+
+pub returns-clause-root_few : goal.returns-clause-root_few
+returns-clause-root_few g c =
+    let row = row_at c.args.m.now.rows c.args.k in
+    subst (λ (z : Layout). c.reduce_arena-step.result ≡ Taken → c.reduce_arena-step.new.steps ≤ c.args.steps.now + 8 * length row + 38 * nodes_met_below_root row (outline_at z) + 8) (same g c)
+    c.reduce_arena-step.ensures.root_few
+
+pub returns-clause-empty : goal.returns-clause-empty
+returns-clause-empty g c = λ none.
+    let done = c.reduce_arena-step.ensures.empty none in
+    (done.0, done.1 ∙ same g c, done.2)

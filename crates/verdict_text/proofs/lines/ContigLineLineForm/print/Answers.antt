@@ -1,5 +1,6 @@
-use Rattle.text_parts.proofs.PrintLaws.{on_err, extends_after}
+use Rattle.std.proofs.lemmas.Result.{on_err_weaker}
+use Rattle.text_parts.proofs.PrintLaws.{extends_after}
 use Rattle.verdict_text.proofs.lines.ContigLineLineForm.print.Goals as goal
 
-pub returns-in_err-push_ends-clause-err : goal.returns-in_err-push_ends-clause-err
-returns-in_err-push_ends-clause-err c = on_err _ (extends_after _ _ _ _ c.in_ok-push.ensures.ok c.in_err-push_ends.ensures.err)
+pub returns-clause-err : goal.returns-clause-err
+returns-clause-err c = on_err_weaker c.push_ends.result (λ e. extends_after _ _ _ _ c.in_ok-push.ensures.ok e) c.push_ends.ensures.err

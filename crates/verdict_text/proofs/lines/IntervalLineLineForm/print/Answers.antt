@@ -1,3 +1,4 @@
+use Rattle.std.proofs.lemmas.Result.{on_err_weaker}
 use Rattle.text_parts.proofs.PrintLaws.{on_err, unchanged, extends_after}
 use Rattle.verdict_text.proofs.lines.IntervalLineLineForm.print.Goals as goal
 
@@ -10,5 +11,5 @@ returns-in_err-push_word-clause-err c = on_err _ (extends_after _ _ _ _ c.in_ok-
 pub returns-in_err-push_word-2-clause-err : goal.returns-in_err-push_word-2-clause-err
 returns-in_err-push_word-2-clause-err c = on_err _ (extends_after _ _ _ _ c.in_ok-push.ensures.ok (extends_after _ _ _ _ c.in_ok-push_number.ensures.ok (extends_after _ _ _ _ c.in_ok-push_word.ensures.ok c.in_err-push_word-2.ensures.err)))
 
-pub returns-in_err-push-2-clause-err : goal.returns-in_err-push-2-clause-err
-returns-in_err-push-2-clause-err c = on_err _ (extends_after _ _ _ _ c.in_ok-push.ensures.ok (extends_after _ _ _ _ c.in_ok-push_number.ensures.ok (extends_after _ _ _ _ c.in_ok-push_word.ensures.ok (extends_after _ _ _ _ c.in_ok-push_word-2.ensures.ok (unchanged c.in_err-push-2.ensures.err)))))
+pub returns-clause-err : goal.returns-clause-err
+returns-clause-err c = on_err_weaker c.push-2.result (λ e. extends_after _ _ _ _ c.in_ok-push.ensures.ok (extends_after _ _ _ _ c.in_ok-push_number.ensures.ok (extends_after _ _ _ _ c.in_ok-push_word.ensures.ok (extends_after _ _ _ _ c.in_ok-push_word-2.ensures.ok (unchanged e))))) c.push-2.ensures.err
