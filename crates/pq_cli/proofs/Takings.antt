@@ -18,6 +18,7 @@ use Rattle.row_model.specs.declared.refusal.Read.{Read}
 use Rattle.row_model.specs.declared.refusal.Read.TheVariants as read
 use Rattle.pq_cli.specs.Reading.{FitsTaken, OnlyReads, ReadsAs, ReadsWhole, IsMadeWithin, value_of}
 use Rattle.pq_cli.proofs.Frame.{reads_done}
+use Rattle.pq_cli.specs.declared.stop.Stop.{Stop}
 
 -- a file that was asked for, and then handed out a piece
 abbrev pub took : List ℕ → List ℕ → Bool → Taken
@@ -46,6 +47,14 @@ part_taken told left_mid left_new before mid after name piece ended asked chosen
   part.taken ∙ ap (handed_out piece ended) asked ∙ asked_on name piece ended before,
   consumed_fits told left_new name piece ended (subst (λ l. Consumes l left_new piece) chosen part.consumed) part.end,
 )
+
+-- a read that failed behind the choice of a file handed out a part of it
+pub part_read : {S W : Type 0} (content : S → List ℕ → Option (List ℕ)) (taken : S → List Taken) (faults : S → ℕ) (left : S → Option (List ℕ)) (old mid new : S) (name piece : List ℕ) (ended : Bool)
+    (is_of : List ℕ → W → Type 0) (s : Stop) → taken mid ≡ asked_for name (taken old) → left mid ≡ content old name → HandsOutPart (left mid) (left new) (taken mid) (taken new) piece ended
+    → (t : Taken) × ReadsWhole content taken faults old new name is_of (Err s) t
+part_read content taken faults left old mid new name piece ended is_of s asked chosen part =
+    let p = part_taken (content old name) (left mid) (left new) (taken old) (taken mid) (taken new) name piece ended asked chosen part in
+    (took name piece ended, record { asks = inl p.0; named = refl; told = p.1; whole = tt })
 
 -- a file was chosen without a fault, and then read
 pub chosen_and_read : {S : Type 0} (content : S → List ℕ → Option (List ℕ)) (faults : S → ℕ) (old mid new : S) (status : ℕ) → ((name : List ℕ) → content mid name ≡ content old name)

@@ -50,10 +50,10 @@ pub returns-in-Refused-2 : goal.returns-in-Refused-2
 returns-in-Refused-2 g c =
     let m = c.args.m.now in
     let t = outline_at c.args.reducer.now in
+    let ticks = subst (λ (k : ℕ). c.reduce_row.new.steps ≤ c.args.steps.now + 256 * (nodes_met (row_at m.rows k) t + 1)) c.rows.ensures c.reduce_row.ensures.ticks in
     let whole : take c.rows.result m.rows ≡ m.rows = take_all c.rows.result m.rows (omega (arith, c.rows.ensures)) in
     let before = subst (λ (r : Layout). IsProper r.columns (outline_at r)) (c.reduce_row.ensures.unchanged c.in-Refused.is) c.reduce_row.ensures.proper in
     let proper = subst (λ (n : ℕ). IsProper n t) c.requires.columns before in
-    let ticks = subst (λ (k : ℕ). c.reduce_row.new.steps ≤ c.args.steps.now + 256 * (nodes_met (row_at m.rows k) t + 1)) c.rows.ensures c.reduce_row.ensures.ticks in
     record {
       decision = (λ o. c.reduce_row.ensures.refused c.in-Refused.is (subst (HasValidOrder m.columns) (sym whole) o), c.if-explain.false);
       tied = λ e. absurd (cc);

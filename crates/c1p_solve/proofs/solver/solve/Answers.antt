@@ -29,40 +29,19 @@ returns-in-Some g c =
     let m = c.args.m.now in
     let t = g.R.Reducer.outline c.reduce_all.new.reducer in
     let reduced = subst (IsReduction m t) c.in-Some.is c.in_ok-reduce_all.ensures.reduction in
-    record {
-      answer = (reduced.0, reduced.1, reduced.3);
-      in_turn = subst (IsReducedInTurn m) c.in-Some.is c.in_ok-reduce_all.ensures.in_turn;
-      reducer = reduced.2;
-      columns = c.reduce_all.ensures.columns;
-      total = λ f h. subst (IsReductionTotal m t c.args.steps.now c.reduce_all.new.steps) c.in-Some.is (c.in_ok-reduce_all.ensures.total f h);
-      most = c.reduce_all.ensures.most;
-    }
+    record { answer = (reduced.0, reduced.1, reduced.3); in_turn = subst (IsReducedInTurn m) c.in-Some.is c.in_ok-reduce_all.ensures.in_turn; reducer = reduced.2; columns = c.reduce_all.ensures.columns; total = λ f h. subst (IsReductionTotal m t c.args.steps.now c.reduce_all.new.steps) c.in-Some.is (c.in_ok-reduce_all.ensures.total f h); most = c.reduce_all.ensures.most }
 
 pub returns-in_err-reduce_all : goal.returns-in_err-reduce_all
 returns-in_err-reduce_all g c =
     let none = c.from_residual.ensures.0 in
     let total = IsTotal c.args.m.now (g.R.Reducer.outline c.reduce_all.new.reducer) c.args.steps.now c.reduce_all.new.steps in
-    record {
-      answer = no_value c.from_residual.result _ none;
-      in_turn = no_value c.from_residual.result _ none;
-      reducer = no_value c.from_residual.result _ none;
-      columns = c.reduce_all.ensures.columns;
-      total = λ f h. no_value c.from_residual.result total none;
-      most = c.reduce_all.ensures.most;
-    }
+    record { answer = no_value c.from_residual.result _ none; in_turn = no_value c.from_residual.result _ none; reducer = no_value c.from_residual.result _ none; columns = c.reduce_all.ensures.columns; total = λ f h. no_value c.from_residual.result total none; most = c.reduce_all.ensures.most }
 
 pub returns-in_err-tree-in-None : goal.returns-in_err-tree-in-None
 returns-in_err-tree-in-None g c =
     let none = c.from_residual-in_err-tree-in-None.ensures.0 in
     let total = IsTotal c.args.m.now (g.R.Reducer.outline c.reduce_all.new.reducer) c.args.steps.now c.reduce_all.new.steps in
-    record {
-      answer = no_value c.from_residual-in_err-tree-in-None.result _ none;
-      in_turn = no_value c.from_residual-in_err-tree-in-None.result _ none;
-      reducer = no_value c.from_residual-in_err-tree-in-None.result _ none;
-      columns = c.reduce_all.ensures.columns;
-      total = λ f h. no_value c.from_residual-in_err-tree-in-None.result total none;
-      most = c.reduce_all.ensures.most;
-    }
+    record { answer = no_value c.from_residual-in_err-tree-in-None.result _ none; in_turn = no_value c.from_residual-in_err-tree-in-None.result _ none; reducer = no_value c.from_residual-in_err-tree-in-None.result _ none; columns = c.reduce_all.ensures.columns; total = λ f h. no_value c.from_residual-in_err-tree-in-None.result total none; most = c.reduce_all.ensures.most }
 
 pub reduce_all-requires : goal.reduce_all-requires
 reduce_all-requires g c = record { columns = c.requires.columns; tied = c.requires.tied }

@@ -11,14 +11,14 @@ returns-clause-ok c =
     let number : c.from.result ≡ c.args.t.now.columns = c.from.ensures ∙ columns in
     five _ _ _ _ _ _ _ _ _ _ _ c.in_ok-push.ensures.ok (rw word at c.in_ok-push-2.ensures.ok) c.in_ok-push-3.ensures.ok (rw number at c.in_ok-push_word.ensures.ok) c.in_ok-push-4.ensures.ok
 
-pub returns-in_err-push-2-clause-err : goal.returns-in_err-push-2-clause-err
-returns-in_err-push-2-clause-err c = on_err _ (extends_after _ _ _ _ c.in_ok-push.ensures.ok (unchanged c.in_err-push-2.ensures.err))
-
-pub returns-in_err-push-3-clause-err : goal.returns-in_err-push-3-clause-err
-returns-in_err-push-3-clause-err c = on_err _ (extends_after _ _ _ _ c.in_ok-push.ensures.ok (extends_after _ _ _ _ c.in_ok-push-2.ensures.ok (unchanged c.in_err-push-3.ensures.err)))
+pub returns-in_err-push-4-clause-err : goal.returns-in_err-push-4-clause-err
+returns-in_err-push-4-clause-err c = on_err _ (extends_after _ _ _ _ c.in_ok-push.ensures.ok (extends_after _ _ _ _ c.in_ok-push-2.ensures.ok (extends_after _ _ _ _ c.in_ok-push-3.ensures.ok (extends_after _ _ _ _ c.in_ok-push_word.ensures.ok (unchanged c.in_err-push-4.ensures.err)))))
 
 pub returns-in_err-push_word-clause-err : goal.returns-in_err-push_word-clause-err
 returns-in_err-push_word-clause-err c = on_err _ (extends_after _ _ _ _ c.in_ok-push.ensures.ok (extends_after _ _ _ _ c.in_ok-push-2.ensures.ok (extends_after _ _ _ _ c.in_ok-push-3.ensures.ok c.in_err-push_word.ensures.err)))
 
-pub returns-in_err-push-4-clause-err : goal.returns-in_err-push-4-clause-err
-returns-in_err-push-4-clause-err c = on_err _ (extends_after _ _ _ _ c.in_ok-push.ensures.ok (extends_after _ _ _ _ c.in_ok-push-2.ensures.ok (extends_after _ _ _ _ c.in_ok-push-3.ensures.ok (extends_after _ _ _ _ c.in_ok-push_word.ensures.ok (unchanged c.in_err-push-4.ensures.err)))))
+pub returns-in_err-push-3-clause-err : goal.returns-in_err-push-3-clause-err
+returns-in_err-push-3-clause-err c = on_err _ (extends_after _ _ _ _ c.in_ok-push.ensures.ok (extends_after _ _ _ _ c.in_ok-push-2.ensures.ok (unchanged c.in_err-push-3.ensures.err)))
+
+pub returns-in_err-push-2-clause-err : goal.returns-in_err-push-2-clause-err
+returns-in_err-push-2-clause-err c = on_err _ (extends_after _ _ _ _ c.in_ok-push.ensures.ok (unchanged c.in_err-push-2.ensures.err))

@@ -14,17 +14,7 @@ pub returns-in_err-ends : goal.returns-in_err-ends
 returns-in_err-ends g c = record { ticks = c.ends_of.ensures.ticks; less = search rules; rest = c.ends_of.ensures.rest; costs = search rules }
 
 pub returns-then-is_first : goal.returns-then-is_first
-returns-then-is_first g c = record {
-  ticks = c.ends_of.ensures.ticks;
-  less = c.in_ok-ends.ensures.less;
-  rest = c.ends_of.ensures.rest;
-  costs = omega (arith, c.in_ok-ends.ensures.turns);
-}
+returns-then-is_first g c = record { ticks = c.ends_of.ensures.ticks; less = c.in_ok-ends.ensures.less; rest = c.ends_of.ensures.rest; costs = omega (arith, c.in_ok-ends.ensures.turns) }
 
 pub returns-else-is_first : goal.returns-else-is_first
-returns-else-is_first g c = record {
-  ticks = c.ends_of.ensures.ticks;
-  less = c.in_ok-ends.ensures.less;
-  rest = c.ends_of.ensures.rest;
-  costs = omega (arith, c.in_ok-ends.ensures.turns);
-}
+returns-else-is_first g c = record { ticks = c.ends_of.ensures.ticks; less = c.in_ok-ends.ensures.less; rest = c.ends_of.ensures.rest; costs = omega (arith, c.in_ok-ends.ensures.turns) }

@@ -455,6 +455,11 @@ read_on-returns-else-bag-eq1-clause-found t c =
     gains_moved c.each_next.result (Reads (p_node (forest (outlines bag.trees.now)) ∷ coming_trees rest.now)) (Reads (coming_trees coming)) c.args.columns.now.items c.args.limit c.args.found.now c.each_next.new.found
     (same_trees (p_node (forest (outlines bag.trees.now)) ∷ coming_trees rest.now) (coming_trees coming) (sym trees)) c.each_next.ensures.found
 
+pub read_tree-returns-in_err-read_on : goal.read_tree-returns-in_err-read_on
+read_tree-returns-in_err-read_on t c =
+    let none = c.from_residual-in_err-read_on.ensures.0 in
+    record { columns = IfOk-from_err c.from_residual-in_err-read_on.result _ none; found = IfOk-from_err c.from_residual-in_err-read_on.result _ none }
+
 -- trees in turn that are used up
 pub read_on-read_on-requires-in-None : goal.read_on-read_on-requires-in-None
 read_on-read_on-requires-in-None t c =
@@ -473,6 +478,11 @@ read_on-read_on-requires-in-None t c =
         ),
       ),
     )
+
+pub read_tree-returns-in_err-push : goal.read_tree-returns-in_err-push
+read_tree-returns-in_err-push t c =
+    let none = c.from_residual.ensures.0 in
+    record { columns = IfOk-from_err c.from_residual.result _ none; found = IfOk-from_err c.from_residual.result _ none }
 
 pub read_on-read_on-requires-in-None-split_last : goal.read_on-read_on-requires-in-None-split_last
 read_on-read_on-requires-in-None-split_last t c =
@@ -507,6 +517,11 @@ open-overflow_sub-end t c =
     q_some_place c.args.way.places.now (map outline_of c.in-Q.children.now) c.args.way.column
     (subst (λ v. Leads (reverse c.args.way.places.now) v c.args.way.column) c.in-Q.ensures.outline c.requires.way)
 
+pub each_next-returns-in_err-push : goal.each_next-returns-in_err-push
+each_next-returns-in_err-push t c =
+    let none = c.from_residual.ensures.0 in
+    record { columns = IfOk-from_err c.from_residual.result _ none; found = IfOk-from_err c.from_residual.result _ none }
+
 pub open-bounds-way-end : goal.open-bounds-way-end
 open-bounds-way-end t c =
     omega (
@@ -517,6 +532,11 @@ open-bounds-way-end t c =
 
 pub open-offset_bounds-way-end : goal.open-offset_bounds-way-end
 open-offset_bounds-way-end t c = omega (arith, c.ranges.way.1)
+
+pub each_next-returns-in_err-places : goal.each_next-returns-in_err-places
+each_next-returns-in_err-places t c =
+    let none = c.from_residual-in_err-places.ensures.0 in
+    record { columns = IfOk-from_err c.from_residual-in_err-places.result _ none; found = IfOk-from_err c.from_residual-in_err-places.result _ none }
 
 -- the columns, as the call that was made last left them
 pub open-returns-in-Leaf-clause-columns : goal.open-returns-in-Leaf-clause-columns
@@ -563,6 +583,11 @@ read_tree-returns-clause-columns t c =
     popped c.args.columns.now.items c.pop.new.self.items c.read_on.new.columns.items c.push.new.self.items c.in-Leaf.column (vec_len c.read_on.new.columns)
     c.in_ok-read_on.ensures.columns c.in_ok-push.ensures.items (omega (arith, c.read_on.new.columns.ok.0)) c.pop.ensures.rest
 
+pub each_next-returns-in_err-take : goal.each_next-returns-in_err-take
+each_next-returns-in_err-take t c =
+    let none = c.from_residual-in_err-take.ensures.0 in
+    record { columns = IfOk-from_err c.from_residual-in_err-take.result _ none; found = IfOk-from_err c.from_residual-in_err-take.result _ none }
+
 pub each_next-returns-then-more-clause-columns : goal.each_next-returns-then-more-clause-columns
 each_next-returns-then-more-clause-columns t c =
     let x = c.in-Some.next.column in
@@ -570,38 +595,13 @@ each_next-returns-then-more-clause-columns t c =
     popped c.args.columns.now.items c.pop.new.self.items c.take.new.columns.items c.push.new.self.items x (vec_len c.take.new.columns) c.in_ok-take.ensures.columns pushed
     (omega (arith, c.take.new.columns.ok.0)) c.pop.ensures.rest
 
-pub each_next-returns-in_default-clause-columns : goal.each_next-returns-in_default-clause-columns
-each_next-returns-in_default-clause-columns t c = c.loop-next.invariant.columns
-
-pub read_tree-returns-in_err-push : goal.read_tree-returns-in_err-push
-read_tree-returns-in_err-push t c =
-    let none = c.from_residual.ensures.0 in
-    record { columns = IfOk-from_err c.from_residual.result _ none; found = IfOk-from_err c.from_residual.result _ none }
-
-pub read_tree-returns-in_err-read_on : goal.read_tree-returns-in_err-read_on
-read_tree-returns-in_err-read_on t c =
-    let none = c.from_residual-in_err-read_on.ensures.0 in
-    record { columns = IfOk-from_err c.from_residual-in_err-read_on.result _ none; found = IfOk-from_err c.from_residual-in_err-read_on.result _ none }
-
-pub each_next-returns-in_err-push : goal.each_next-returns-in_err-push
-each_next-returns-in_err-push t c =
-    let none = c.from_residual.ensures.0 in
-    record { columns = IfOk-from_err c.from_residual.result _ none; found = IfOk-from_err c.from_residual.result _ none }
-
-pub each_next-returns-in_err-places : goal.each_next-returns-in_err-places
-each_next-returns-in_err-places t c =
-    let none = c.from_residual-in_err-places.ensures.0 in
-    record { columns = IfOk-from_err c.from_residual-in_err-places.result _ none; found = IfOk-from_err c.from_residual-in_err-places.result _ none }
-
-pub each_next-returns-in_err-take : goal.each_next-returns-in_err-take
-each_next-returns-in_err-take t c =
-    let none = c.from_residual-in_err-take.ensures.0 in
-    record { columns = IfOk-from_err c.from_residual-in_err-take.result _ none; found = IfOk-from_err c.from_residual-in_err-take.result _ none }
-
 pub take-returns-in_err-others : goal.take-returns-in_err-others
 take-returns-in_err-others t c =
     let none = c.from_residual.ensures.0 in
     record { columns = IfOk-from_err c.from_residual.result _ none; found = IfOk-from_err c.from_residual.result _ none }
+
+pub each_next-returns-in_default-clause-columns : goal.each_next-returns-in_default-clause-columns
+each_next-returns-in_default-clause-columns t c = c.loop-next.invariant.columns
 
 pub open-returns-in_err-trees-in-P : goal.open-returns-in_err-trees-in-P
 open-returns-in_err-trees-in-P t c =

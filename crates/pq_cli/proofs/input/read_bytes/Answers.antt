@@ -1,5 +1,5 @@
 use Rattle.std.proofs.Common.{[], false, inl, inr, refl, arith}
-use Rattle.pq_cli.proofs.Takings.{took, nothing_fits, part_taken, handed_whole, chosen_and_read, choice_fails, choice_faults, choice_lacks, choice_stands, read_faults, read_stands}
+use Rattle.pq_cli.proofs.Takings.{took, nothing_fits, part_taken, part_read, handed_whole, chosen_and_read, choice_fails, choice_faults, choice_lacks, choice_stands, read_faults, read_stands}
 use Rattle.pq_cli.proofs.input.read_bytes.Goals as goal
 
 pub returns-in-Err-Failed : goal.returns-in-Err-Failed
@@ -24,11 +24,8 @@ pub returns-in-Err-Fault : goal.returns-in-Err-Fault
 returns-in-Err-Fault g c =
     let chosen = c.in-Ok.ensures in
     let read = c.in-Err-Fault.ensures in
-    let handed = read.taken in
-    let part = part_taken (g.F.Shelf.content c.args.files.now c.args.name.now) (g.F.Shelf.left c.choose.new.self) (g.F.Shelf.left c.read_all.new.shelf) (g.F.Shelf.taken c.args.files.now)
-    (g.F.Shelf.taken c.choose.new.self) (g.F.Shelf.taken c.read_all.new.shelf) c.args.name.now handed.0 handed.1 chosen.asked chosen.left handed.2 in
     record {
-      whole = (took c.args.name.now handed.0 handed.1, record { asks = inl part.0; named = refl; told = part.1; whole = tt });
+      whole = part_read g.F.Shelf.content g.F.Shelf.taken g.F.Shelf.faults g.F.Shelf.left c.args.files.now c.choose.new.self c.read_all.new.shelf c.args.name.now read.taken.0 read.taken.1 _ _ chosen.asked chosen.left read.taken.2;
       shelf = chosen_and_read g.F.Shelf.content g.F.Shelf.faults c.args.files.now c.choose.new.self c.read_all.new.shelf 4 chosen.content chosen.told read.content read.cause.later (λ e. read_faults _ _ _ c.in-Err-Fault.field-0-is read.cause.failed) (λ d. refl);
       stop = tt;
     }
@@ -37,11 +34,8 @@ pub returns-in-Err-NoMemory-read_all : goal.returns-in-Err-NoMemory-read_all
 returns-in-Err-NoMemory-read_all g c =
     let chosen = c.in-Ok.ensures in
     let read = c.in-Err-NoMemory-read_all.ensures in
-    let handed = read.taken in
-    let part = part_taken (g.F.Shelf.content c.args.files.now c.args.name.now) (g.F.Shelf.left c.choose.new.self) (g.F.Shelf.left c.read_all.new.shelf) (g.F.Shelf.taken c.args.files.now)
-    (g.F.Shelf.taken c.choose.new.self) (g.F.Shelf.taken c.read_all.new.shelf) c.args.name.now handed.0 handed.1 chosen.asked chosen.left handed.2 in
     record {
-      whole = (took c.args.name.now handed.0 handed.1, record { asks = inl part.0; named = refl; told = part.1; whole = tt });
+      whole = part_read g.F.Shelf.content g.F.Shelf.taken g.F.Shelf.faults g.F.Shelf.left c.args.files.now c.choose.new.self c.read_all.new.shelf c.args.name.now read.taken.0 read.taken.1 _ _ chosen.asked chosen.left read.taken.2;
       shelf = chosen_and_read g.F.Shelf.content g.F.Shelf.faults c.args.files.now c.choose.new.self c.read_all.new.shelf 6 chosen.content chosen.told read.content read.cause.later (λ e. absurd (omega arith)) (λ d. absurd (d (read_stands _ _ _ c.in-Err-NoMemory-read_all.field-0-is read.told)));
       stop = tt;
     }

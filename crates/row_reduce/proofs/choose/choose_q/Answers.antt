@@ -34,8 +34,17 @@ none_stands v s Q3 h = s.three (h.0, h.1.0, h.1.1)
 not_run : (v : Marks) {root : Bool} → (root ≡ true → v.inside ≡ false) → IsRunMeant v root → ⊥
 not_run v outside meant = false≢true (sym (outside meant.1) ∙ meant.0)
 
-pub fits_q1-requires : goal.fits_q1-requires
-fits_q1-requires g c = c.requires.ready
+pub returns-then-fits_q1-clause-few : goal.returns-then-fits_q1-clause-few
+returns-then-fits_q1-clause-few g c = omega (arith, c.fits_q1.ensures.few)
+
+pub returns-then-fits_q2-clause-few : goal.returns-then-fits_q2-clause-few
+returns-then-fits_q2-clause-few g c = omega (arith, c.fits_q1.ensures.few, c.fits_q2.ensures.few)
+
+pub returns-then-fits_q3-clause-few : goal.returns-then-fits_q3-clause-few
+returns-then-fits_q3-clause-few g c = omega (arith, c.fits_q1.ensures.few, c.fits_q2.ensures.few, c.fits_q3.ensures.few (not_run c.args.work.now c.requires.outside))
+
+pub returns-clause-few : goal.returns-clause-few
+returns-clause-few g c = omega (arith, c.fits_q1.ensures.few, c.fits_q2.ensures.few, c.fits_q3.ensures.few (not_run c.args.work.now c.requires.outside))
 
 pub returns-then-fits_q1-clause-choice : goal.returns-then-fits_q1-clause-choice
 returns-then-fits_q1-clause-choice g c = λ ps marked. (c.fits_q1.ensures.fits ps marked).0 c.if-fits_q1.true
@@ -43,23 +52,11 @@ returns-then-fits_q1-clause-choice g c = λ ps marked. (c.fits_q1.ensures.fits p
 pub returns-then-fits_q1-clause-ticks : goal.returns-then-fits_q1-clause-ticks
 returns-then-fits_q1-clause-ticks g c = omega (arith, c.fits_q1.ensures.ticks)
 
-pub returns-then-fits_q1-clause-few : goal.returns-then-fits_q1-clause-few
-returns-then-fits_q1-clause-few g c = omega (arith, c.fits_q1.ensures.few)
-
-pub fits_q2-requires : goal.fits_q2-requires
-fits_q2-requires g c = c.requires.ready
-
 pub returns-then-fits_q2-clause-choice : goal.returns-then-fits_q2-clause-choice
 returns-then-fits_q2-clause-choice g c = λ ps marked. let h = (c.fits_q2.ensures.fits ps marked).0 c.if-fits_q2.true in (h.0, (h.1, h.2))
 
 pub returns-then-fits_q2-clause-ticks : goal.returns-then-fits_q2-clause-ticks
 returns-then-fits_q2-clause-ticks g c = omega (arith, c.fits_q1.ensures.ticks, c.fits_q2.ensures.ticks)
-
-pub returns-then-fits_q2-clause-few : goal.returns-then-fits_q2-clause-few
-returns-then-fits_q2-clause-few g c = omega (arith, c.fits_q1.ensures.few, c.fits_q2.ensures.few)
-
-pub fits_q3-requires : goal.fits_q3-requires
-fits_q3-requires g c = record { at = λ apart. c.requires.ready; inside = λ meant. absurd ((not_run c.args.work.now c.requires.outside) meant) }
 
 pub returns-then-fits_q3-clause-choice : goal.returns-then-fits_q3-clause-choice
 returns-then-fits_q3-clause-choice g c = λ ps marked. let h = (c.fits_q3.ensures.fits (not_run c.args.work.now c.requires.outside) ps marked).0 c.if-fits_q3.true in (h.0, (h.1, h.2))
@@ -67,20 +64,22 @@ returns-then-fits_q3-clause-choice g c = λ ps marked. let h = (c.fits_q3.ensure
 pub returns-then-fits_q3-clause-ticks : goal.returns-then-fits_q3-clause-ticks
 returns-then-fits_q3-clause-ticks g c = omega (arith, c.fits_q1.ensures.ticks, c.fits_q2.ensures.ticks, c.fits_q3.ensures.ticks (not_run c.args.work.now c.requires.outside))
 
-pub returns-then-fits_q3-clause-few : goal.returns-then-fits_q3-clause-few
-returns-then-fits_q3-clause-few g c = omega (arith, c.fits_q1.ensures.few, c.fits_q2.ensures.few, c.fits_q3.ensures.few (not_run c.args.work.now c.requires.outside))
-
 pub returns-clause-choice : goal.returns-clause-choice
-returns-clause-choice g c = λ t ps marked.
-    none_stands c.args.work.now (record {
-      q = c.requires.q;
-      one = λ h. false≢true (sym c.if-fits_q1.false ∙ (c.fits_q1.ensures.fits ps marked).1 h);
-      two = λ h. false≢true (sym c.if-fits_q2.false ∙ (c.fits_q2.ensures.fits ps marked).1 h);
-      three = λ h. false≢true (sym c.if-fits_q3.false ∙ (c.fits_q3.ensures.fits (not_run c.args.work.now c.requires.outside) ps marked).1 h);
-    }) t
+returns-clause-choice g c = λ t ps marked. none_stands c.args.work.now (record {
+  q = c.requires.q;
+  one = λ h. false≢true (sym c.if-fits_q1.false ∙ (c.fits_q1.ensures.fits ps marked).1 h);
+  two = λ h. false≢true (sym c.if-fits_q2.false ∙ (c.fits_q2.ensures.fits ps marked).1 h);
+  three = λ h. false≢true (sym c.if-fits_q3.false ∙ (c.fits_q3.ensures.fits (not_run c.args.work.now c.requires.outside) ps marked).1 h);
+}) t
 
 pub returns-clause-ticks : goal.returns-clause-ticks
 returns-clause-ticks g c = omega (arith, c.fits_q1.ensures.ticks, c.fits_q2.ensures.ticks, c.fits_q3.ensures.ticks (not_run c.args.work.now c.requires.outside))
 
-pub returns-clause-few : goal.returns-clause-few
-returns-clause-few g c = omega (arith, c.fits_q1.ensures.few, c.fits_q2.ensures.few, c.fits_q3.ensures.few (not_run c.args.work.now c.requires.outside))
+pub fits_q1-requires : goal.fits_q1-requires
+fits_q1-requires g c = c.requires.ready
+
+pub fits_q2-requires : goal.fits_q2-requires
+fits_q2-requires g c = c.requires.ready
+
+pub fits_q3-requires : goal.fits_q3-requires
+fits_q3-requires g c = record { at = λ apart. c.requires.ready; inside = λ meant. absurd ((not_run c.args.work.now c.requires.outside) meant) }

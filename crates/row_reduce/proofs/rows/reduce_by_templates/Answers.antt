@@ -41,28 +41,46 @@ pub returns-in-Root-clause-ticks : goal.returns-in-Root-clause-ticks
 returns-in-Root-clause-ticks g c =
     root_total _ (at_found_root (marked_row (row_over c.layout_law.ensures c.requires.tree c.row-row.ensures.row c.row-row.ensures.ascending) c.bubble.new.work c.arities_law.ensures c.requires.some (c.bubble.ensures.room ∙ c.requires.room)) _ c.in-Root.ensures.answer) (met_most c.met_law.ensures (row_over c.layout_law.ensures c.requires.tree c.row-row.ensures.row c.row-row.ensures.ascending)) _ _ _ c.bubble.ensures.few c.reduce_root.ensures.ticks
 
+pub arities_law-requires-clause-one : goal.arities_law-requires-clause-one
+arities_law-requires-clause-one g c = c.requires.tree.one
+
 pub returns-in-Inside-clause-outcome : goal.returns-in-Inside-clause-outcome
 returns-in-Inside-clause-outcome g c =
     let row = row_at c.args.m.now.rows c.args.k in
     subst (λ (z : Layout). IsOutcome row z c.reduce_inside.new.arena c.reduce_inside.result) c.bubble.ensures.arena
     (c.reduce_inside.ensures.outcome row (inside_found _ (marked_row (row_over c.layout_law.ensures c.requires.tree c.row-row.ensures.row c.row-row.ensures.ascending) c.bubble.new.work c.arities_law.ensures c.requires.some (c.bubble.ensures.room ∙ c.requires.room)) c.bubble.ensures.arena c.in-Inside.ensures.answer))
 
+pub arities_law-requires-clause-proper : goal.arities_law-requires-clause-proper
+arities_law-requires-clause-proper g c = subst (λ n. IsProper n (outline_at c.args.arena.now)) (sym c.requires.tree.columns) c.requires.tree.proper
+
 pub returns-in-Inside-clause-ticks : goal.returns-in-Inside-clause-ticks
 returns-in-Inside-clause-ticks g c =
     inside_total _ (at_found_inside (marked_row (row_over c.layout_law.ensures c.requires.tree c.row-row.ensures.row c.row-row.ensures.ascending) c.bubble.new.work c.arities_law.ensures c.requires.some (c.bubble.ensures.room ∙ c.requires.room)) c.in-Inside.ensures.answer) (met_most c.met_law.ensures (row_over c.layout_law.ensures c.requires.tree c.row-row.ensures.row c.row-row.ensures.ascending)) _ _ _ c.bubble.ensures.few
     (let t = c.reduce_inside.ensures.ticks in omega (arith, t))
 
+pub row-row-requires : goal.row-row-requires
+row-row-requires g c = c.requires.tree.within
+
 pub returns-in-Split-clause-outcome : goal.returns-in-Split-clause-outcome
 returns-in-Split-clause-outcome g c = (split_refused c.reduce_law.ensures.kept c.reduce_law.ensures.decided (at_row (row_over c.layout_law.ensures c.requires.tree c.row-row.ensures.row c.row-row.ensures.ascending)) (c.in-Split.ensures.split refl), c.bubble.ensures.arena)
+
+pub bubble-requires-clause-tree : goal.bubble-requires-clause-tree
+bubble-requires-clause-tree g c = c.requires.tree.one
 
 pub returns-in-Root-clause-below : goal.returns-in-Root-clause-below
 returns-in-Root-clause-below g c = λ e.
     root_below c.met_law.ensures (row_over c.layout_law.ensures c.requires.tree c.row-row.ensures.row c.row-row.ensures.ascending) (at_found_root (marked_row (row_over c.layout_law.ensures c.requires.tree c.row-row.ensures.row c.row-row.ensures.ascending) c.bubble.new.work c.arities_law.ensures c.requires.some (c.bubble.ensures.room ∙ c.requires.room)) _ c.in-Root.ensures.answer) _ _ _ (c.in-Root.ensures.root_few tt) c.reduce_root.ensures.ticks
 
+pub bubble-requires-clause-inner : goal.bubble-requires-clause-inner
+bubble-requires-clause-inner g c = c.arities_law.ensures
+
 pub returns-in-Inside-clause-below : goal.returns-in-Inside-clause-below
 returns-in-Inside-clause-below g c = λ e.
     inside_below c.met_law.ensures (row_over c.layout_law.ensures c.requires.tree c.row-row.ensures.row c.row-row.ensures.ascending) (at_found_inside (marked_row (row_over c.layout_law.ensures c.requires.tree c.row-row.ensures.row c.row-row.ensures.ascending) c.bubble.new.work c.arities_law.ensures c.requires.some (c.bubble.ensures.room ∙ c.requires.room)) c.in-Inside.ensures.answer) _ _ _ (c.in-Inside.ensures.root_few tt)
     (let t = c.reduce_inside.ensures.ticks in omega (arith, t))
+
+pub bubble-requires-clause-columns : goal.bubble-requires-clause-columns
+bubble-requires-clause-columns g c = c.requires.tree.columns
 
 pub returns-in-Root-clause-kept : goal.returns-in-Root-clause-kept
 returns-in-Root-clause-kept g c = λ kept.
@@ -72,6 +90,9 @@ returns-in-Root-clause-kept g c = λ kept.
     let same = c.reduce_root.ensures.kept row found (subst (λ (z : Layout). IsRowKept z (column_leaves row)) (sym c.bubble.ensures.arena) kept) in
     (taken_kept c.reduce_law.ensures.kept c.reduce_law.ensures.refused s c.arities_law.ensures kept c.reduce_root.new.arena c.reduce_root.result (returns-in-Root-clause-outcome g c), same ∙ c.bubble.ensures.arena)
 
+pub bubble-requires-clause-room : goal.bubble-requires-clause-room
+bubble-requires-clause-room g c = c.requires.room
+
 pub returns-in-Inside-clause-kept : goal.returns-in-Inside-clause-kept
 returns-in-Inside-clause-kept g c = λ kept.
     let s = (row_over c.layout_law.ensures c.requires.tree c.row-row.ensures.row c.row-row.ensures.ascending) in
@@ -80,33 +101,12 @@ returns-in-Inside-clause-kept g c = λ kept.
     let same = c.reduce_inside.ensures.kept row found (subst (λ (z : Layout). IsRowKept z (column_leaves row)) (sym c.bubble.ensures.arena) kept) in
     (taken_kept c.reduce_law.ensures.kept c.reduce_law.ensures.refused s c.arities_law.ensures kept c.reduce_inside.new.arena c.reduce_inside.result (returns-in-Inside-clause-outcome g c), same ∙ c.bubble.ensures.arena)
 
+pub bubble-requires-clause-row : goal.bubble-requires-clause-row
+bubble-requires-clause-row g c = c.requires.tree.within
+
 pub returns-in-Split-clause-kept : goal.returns-in-Split-clause-kept
 returns-in-Split-clause-kept g c = λ kept.
     (taken_kept c.reduce_law.ensures.kept c.reduce_law.ensures.refused (row_over c.layout_law.ensures c.requires.tree c.row-row.ensures.row c.row-row.ensures.ascending) c.arities_law.ensures kept c.bubble.new.arena Refused (returns-in-Split-clause-outcome g c), c.bubble.ensures.arena)
-
-pub arities_law-requires-clause-one : goal.arities_law-requires-clause-one
-arities_law-requires-clause-one g c = c.requires.tree.one
-
-pub arities_law-requires-clause-proper : goal.arities_law-requires-clause-proper
-arities_law-requires-clause-proper g c = subst (λ n. IsProper n (outline_at c.args.arena.now)) (sym c.requires.tree.columns) c.requires.tree.proper
-
-pub row-row-requires : goal.row-row-requires
-row-row-requires g c = c.requires.tree.within
-
-pub bubble-requires-clause-tree : goal.bubble-requires-clause-tree
-bubble-requires-clause-tree g c = c.requires.tree.one
-
-pub bubble-requires-clause-inner : goal.bubble-requires-clause-inner
-bubble-requires-clause-inner g c = c.arities_law.ensures
-
-pub bubble-requires-clause-columns : goal.bubble-requires-clause-columns
-bubble-requires-clause-columns g c = c.requires.tree.columns
-
-pub bubble-requires-clause-room : goal.bubble-requires-clause-room
-bubble-requires-clause-room g c = c.requires.room
-
-pub bubble-requires-clause-row : goal.bubble-requires-clause-row
-bubble-requires-clause-row g c = c.requires.tree.within
 
 pub bubble-requires-clause-some : goal.bubble-requires-clause-some
 bubble-requires-clause-some g c = c.requires.some

@@ -48,11 +48,7 @@ pub returns-in_err-session : goal.returns-in_err-session
 returns-in_err-session g c =
     let made = c.from_residual.result in
     let none = c.from_residual.ensures in
-    record {
-      reply = IfOk-from_err made _ none.0;
-      status = IfOk-from_err made _ none.0;
-      steps = of_none c.args.base c.args.further.now.rows made _ c.args.steps.now c.start.new.steps none.1 c.start.ensures.most;
-    }
+    record { reply = IfOk-from_err made _ none.0; status = IfOk-from_err made _ none.0; steps = of_none c.args.base c.args.further.now.rows made _ c.args.steps.now c.start.new.steps none.1 c.start.ensures.most }
 
 pub returns-in-No-clause-status : goal.returns-in-No-clause-status
 returns-in-No-clause-status g c =
@@ -77,10 +73,7 @@ returns-in-Ok-clause-status g c =
 pub session_reply-requires : goal.session_reply-requires
 session_reply-requires g c =
     let started = subst (IsStart c.args.base) c.in-Ok.is c.in_ok-session.ensures.start in
-    record {
-      columns = c.requires.columns ∙ sym (ap (λ (n : RowList). n.columns) started.0);
-      room = omega (arith, c.requires.base.2, c.requires.few, ap (λ (n : RowList). length n.rows) started.0);
-    }
+    record { columns = c.requires.columns ∙ sym (ap (λ (n : RowList). n.columns) started.0); room = omega (arith, c.requires.base.2, c.requires.few, ap (λ (n : RowList). length n.rows) started.0) }
 
 pub no_reply-requires : goal.no_reply-requires
 no_reply-requires g c = (c.columns-columns.ensures.range.0, omega (arith, c.columns-columns.ensures.columns, c.requires.base.1))

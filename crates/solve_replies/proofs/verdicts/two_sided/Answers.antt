@@ -16,11 +16,7 @@ use Rattle.solve_replies.proofs.verdicts.two_sided.Goals as goal
 second_no : (i : InstanceValue) (side : ℕ) (lines cycle : List Line) → side ≡ 2 → lines ≡ cycle → length (instance_columns i) ≡ 2 → HasOrder i 1 → IsAnswer (derived_matrix i 2) (No cycle)
     → IsFirstConflict (derived_matrix i 2) cycle → IsClaimOf i (no_claim side lines)
 second_no i side lines cycle is same sides order answer first =
-    let without : IsFirstWithout i 2 = record {
-      side = (omega arith, omega (arith, sides));
-      before = λ earlier from to. let one : 1 ≡ earlier = omega (arith, from, to) in subst (HasOrder i) one order;
-      none = answer.1;
-    } in
+    let without : IsFirstWithout i 2 = record { side = (omega arith, omega (arith, sides)); before = λ earlier from to. let one : 1 ≡ earlier = omega (arith, from, to) in subst (HasOrder i) one order; none = answer.1 } in
     subst (λ s. IsClaimOf i (no_claim s lines)) (sym is) (subst (λ ls. IsClaimOf i (no_claim 2 ls)) (sym same) (without, answer.0, answer.2, first))
 
 pub returns-in-No-clause-claim : goal.returns-in-No-clause-claim
@@ -34,25 +30,16 @@ pub returns-in_err-cycle : goal.returns-in_err-cycle
 returns-in_err-cycle g c =
     let made = c.from_residual.result in
     let none = c.from_residual.ensures in
-    record {
-      claim = IfOk-from_err made _ none.0;
-      steps = unmade_within part_status made _ (derived_matrix (instance_value c.args.instance.now) 2) c.args.steps.now c.solve_side.new.steps none.1 c.solve_side.ensures.steps.most;
-    }
+    record { claim = IfOk-from_err made _ none.0; steps = unmade_within part_status made _ (derived_matrix (instance_value c.args.instance.now) 2) c.args.steps.now c.solve_side.new.steps none.1 c.solve_side.ensures.steps.most }
 
 pub returns-in_err-first_order-in-Yes : goal.returns-in_err-first_order-in-Yes
 returns-in_err-first_order-in-Yes g c =
     let made = c.from_residual-in_err-first_order-in-Yes.result in
     let none = c.from_residual-in_err-first_order-in-Yes.ensures in
-    record {
-      claim = IfOk-from_err made _ none.0;
-      steps = unmade_within part_status made _ (derived_matrix (instance_value c.args.instance.now) 2) c.args.steps.now c.solve_side.new.steps none.1 c.solve_side.ensures.steps.most;
-    }
+    record { claim = IfOk-from_err made _ none.0; steps = unmade_within part_status made _ (derived_matrix (instance_value c.args.instance.now) 2) c.args.steps.now c.solve_side.new.steps none.1 c.solve_side.ensures.steps.most }
 
 pub returns-in_err-second_order-in-Yes : goal.returns-in_err-second_order-in-Yes
 returns-in_err-second_order-in-Yes g c =
     let made = c.from_residual-in_err-second_order-in-Yes.result in
     let none = c.from_residual-in_err-second_order-in-Yes.ensures in
-    record {
-      claim = IfOk-from_err made _ none.0;
-      steps = unmade_within part_status made _ (derived_matrix (instance_value c.args.instance.now) 2) c.args.steps.now c.solve_side.new.steps none.1 c.solve_side.ensures.steps.most;
-    }
+    record { claim = IfOk-from_err made _ none.0; steps = unmade_within part_status made _ (derived_matrix (instance_value c.args.instance.now) 2) c.args.steps.now c.solve_side.new.steps none.1 c.solve_side.ensures.steps.most }

@@ -10,11 +10,9 @@ returns-in_err-index c = rw c.from_residual.ensures (sym (next_number _ _ _ _ _ 
 
 pub returns-in_err-left : goal.returns-in_err-left
 unfolding left_at
-returns-in_err-left c =
-    rw c.from_residual-in_err-left.ensures (sym (next_number _ _ _ _ _ (rw c.from.ensures at c.in_ok-index.ensures.value) ∙ next_number _ _ _ _ _ c.in_err-left.ensures.value))
+returns-in_err-left c = rw c.from_residual-in_err-left.ensures (sym (next_number _ _ _ _ _ (rw c.from.ensures at c.in_ok-index.ensures.value) ∙ next_number _ _ _ _ _ c.in_err-left.ensures.value))
 
 pub returns-in_err-rest : goal.returns-in_err-rest
 unfolding left_at
-returns-in_err-rest c =
-    rw c.from_residual-in_err-rest.ensures (sym (next_number _ _ _ _ _ (rw c.from.ensures at c.in_ok-index.ensures.value) ∙ next_number _ _ _ _ _ c.in_ok-left.ensures.value
+returns-in_err-rest c = rw c.from_residual-in_err-rest.ensures (sym (next_number _ _ _ _ _ (rw c.from.ensures at c.in_ok-index.ensures.value) ∙ next_number _ _ _ _ _ c.in_ok-left.ensures.value
     ∙ ap (option_and_then _) (sym c.in_err-rest.ensures.value)))

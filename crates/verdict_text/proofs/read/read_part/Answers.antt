@@ -34,8 +34,7 @@ unfolding claim_at
 returns-in_err-rest-in-None c =
     let none : word_at (codes "answer yes\n") c.args.bytes.now ≡ None = sym c.in-None.ensures.value in
     let p = err_from_is_err_and c.from_residual-in_err-rest-in-None.result c.from_residual-in_err-rest-in-None.ensures.1 in
-    rw (p.1, p.2) (stops _ _ _ c.in_err-rest-in-None.ensures
-    (λ h. ap (λ o. yes_or_no c.args.kind (column_counts c.args.columns) o c.args.bytes.now) none ∙ ap (option_and_then (no_at (side_count c.args.kind))) h))
+    rw (p.1, p.2) (stops _ _ _ c.in_err-rest-in-None.ensures (λ h. ap (λ o. yes_or_no c.args.kind (column_counts c.args.columns) o c.args.bytes.now) none ∙ ap (option_and_then (no_at (side_count c.args.kind))) h))
 
 pub returns-in_err-part-in-None : goal.returns-in_err-part-in-None
 unfolding claim_at

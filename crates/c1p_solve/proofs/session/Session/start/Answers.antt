@@ -12,11 +12,7 @@ returns-in-None g c =
     let m = c.args.m in
     let light = weighs_little c.columns.result m.columns (outline_at c.in_ok-reducer.reducer) c.weight_law.ensures.universal c.columns.ensures.columns c.in_ok-reducer.ensures.tree in
     let reduced = subst (IsReduction m (outline_at c.reduce_all.new.reducer)) c.in-None.is c.in_ok-reduce_all.ensures.reduction in
-    record {
-      start = (refl, record { tied = reduced.0; order = reduced.1 });
-      total = subst (IsReductionTotal m (outline_at c.reduce_all.new.reducer) c.args.steps.now c.reduce_all.new.steps) c.in-None.is (c.in_ok-reduce_all.ensures.total refl light);
-      most = c.reduce_all.ensures.most refl light;
-    }
+    record { start = (refl, record { tied = reduced.0; order = reduced.1 }); total = subst (IsReductionTotal m (outline_at c.reduce_all.new.reducer) c.args.steps.now c.reduce_all.new.steps) c.in-None.is (c.in_ok-reduce_all.ensures.total refl light); most = c.reduce_all.ensures.most refl light }
 
 pub returns-in-Some : goal.returns-in-Some
 returns-in-Some g c =
@@ -38,14 +34,7 @@ pub returns-in_err-reduce_all : goal.returns-in_err-reduce_all
 returns-in_err-reduce_all g c =
     let none = c.from_residual-in_err-reduce_all.ensures.0 in
     let light = weighs_little c.columns.result c.args.m.columns (outline_at c.in_ok-reducer.reducer) c.weight_law.ensures.universal c.columns.ensures.columns c.in_ok-reducer.ensures.tree in
-    record {
-      start = no_value c.from_residual-in_err-reduce_all.result _ none;
-      total = no_value c.from_residual-in_err-reduce_all.result _ none;
-      most = c.reduce_all.ensures.most refl light;
-    }
+    record { start = no_value c.from_residual-in_err-reduce_all.result _ none; total = no_value c.from_residual-in_err-reduce_all.result _ none; most = c.reduce_all.ensures.most refl light }
 
 pub reduce_all-requires : goal.reduce_all-requires
-reduce_all-requires g c = record {
-  columns = c.in_ok-reducer.ensures.columns ∙ c.columns.ensures.columns;
-  tied = subst (λ n. IsTied n [] (outline_at c.in_ok-reducer.reducer)) c.columns.ensures.columns c.in_ok-reducer.ensures.tied;
-}
+reduce_all-requires g c = record { columns = c.in_ok-reducer.ensures.columns ∙ c.columns.ensures.columns; tied = subst (λ n. IsTied n [] (outline_at c.in_ok-reducer.reducer)) c.columns.ensures.columns c.in_ok-reducer.ensures.tied }

@@ -17,9 +17,7 @@ returns-then-not-matches g c =
     let before : SessionValue = c.args.self.now in
     let pushed : c.push_row.new.self ≡ with_row before.matrix c.args.row.now = c.in_ok-push_row.ensures.ok ∙ ap (λ (v : SessionValue). with_row v.matrix c.args.row.now) c.self.view_is in
     let e = c.reduce_last-taken.ensures in
-    let h = behind_session before c.args.row.now c.push_row.new.self (outline_at c.self.inside.reducer) (outline_at c.reduce_last-taken.new.reducer) c.args.explain c.args.steps.now c.reduce_last-taken.new.steps c.reduce_last-taken.result
-    pushed (ap (λ (v : SessionValue). v.tree) c.self.view_is)
-    (record { decision = e.decision; tied = e.tied; unchanged = e.unchanged; proper = e.proper; err = e.err; total = e.total; most = e.most; refused = e.refused; failed = e.failed }) in
+    let h = behind_session before c.args.row.now c.push_row.new.self (outline_at c.self.inside.reducer) (outline_at c.reduce_last-taken.new.reducer) c.args.explain c.args.steps.now c.reduce_last-taken.new.steps c.reduce_last-taken.result pushed (ap (λ (v : SessionValue). v.tree) c.self.view_is) (record { decision = e.decision; tied = e.tied; unchanged = e.unchanged; proper = e.proper; err = e.err; total = e.total; most = e.most; refused = e.refused; failed = e.failed }) in
     let other : c.reduce_last-taken.result ≢ Ok taken.Ok = λ is. elim c.match-matches.branch [
       | in-Ok-Ok w ↦ absurd (false≢true (sym c.if-not-matches.true ∙ w.matches-is))
       | in_default w ↦
@@ -46,17 +44,15 @@ returns-then-not-matches g c =
 
 pub returns-else-not-matches : goal.returns-else-not-matches
 returns-else-not-matches g c =
-    let before : SessionValue = c.args.self.now in
-    let pushed : c.push_row.new.self ≡ with_row before.matrix c.args.row.now = c.in_ok-push_row.ensures.ok ∙ ap (λ (v : SessionValue). with_row v.matrix c.args.row.now) c.self.view_is in
-    let e = c.reduce_last-taken.ensures in
-    let h = behind_session before c.args.row.now c.push_row.new.self (outline_at c.self.inside.reducer) (outline_at c.reduce_last-taken.new.reducer) c.args.explain c.args.steps.now c.reduce_last-taken.new.steps c.reduce_last-taken.result
-    pushed (ap (λ (v : SessionValue). v.tree) c.self.view_is)
-    (record { decision = e.decision; tied = e.tied; unchanged = e.unchanged; proper = e.proper; err = e.err; total = e.total; most = e.most; refused = e.refused; failed = e.failed }) in
     let is : c.reduce_last-taken.result ≡ Ok taken.Ok = elim c.match-matches.branch [
       | in-Ok-Ok w ↦ search rules
       | in_default w ↦ absurd (false≢true (sym w.matches-is ∙ c.if-not-matches.false))
       | in_default-2 w ↦ absurd (false≢true (sym w.matches-is ∙ c.if-not-matches.false))
     ] in
+    let before : SessionValue = c.args.self.now in
+    let pushed : c.push_row.new.self ≡ with_row before.matrix c.args.row.now = c.in_ok-push_row.ensures.ok ∙ ap (λ (v : SessionValue). with_row v.matrix c.args.row.now) c.self.view_is in
+    let e = c.reduce_last-taken.ensures in
+    let h = behind_session before c.args.row.now c.push_row.new.self (outline_at c.self.inside.reducer) (outline_at c.reduce_last-taken.new.reducer) c.args.explain c.args.steps.now c.reduce_last-taken.new.steps c.reduce_last-taken.result pushed (ap (λ (v : SessionValue). v.tree) c.self.view_is) (record { decision = e.decision; tied = e.tied; unchanged = e.unchanged; proper = e.proper; err = e.err; total = e.total; most = e.most; refused = e.refused; failed = e.failed }) in
     let after : SessionValue = record { matrix = c.push_row.new.self; tree = outline_at c.reduce_last-taken.new.reducer } in
     let longer = ap (λ m. record { matrix = m; tree = outline_at c.reduce_last-taken.new.reducer }) pushed in
     record {
