@@ -13,21 +13,11 @@ use std::io::{self, ErrorKind, Read};
 use std::rt::Files;
 
 /// What is chosen.
+#[derive(Drop)]
 pub enum Chosen<File, Reader> {
     Nothing,
     Input(Begun<Reader>),
     File(Opened<File>),
-}
-
-// By hand, so that a place where what was chosen is dropped proves one call and does not take its cases apart.
-impl<File: Drop, Reader: Drop> Drop for Chosen<File, Reader> {
-    fn drop(self) {
-        match self {
-            Chosen::Nothing => {}
-            Chosen::Input(_begun) => {}
-            Chosen::File(_opened) => {}
-        }
-    }
 }
 
 /// A file that was begun, and the name by which it was opened.

@@ -39,7 +39,7 @@ front : (at more : ℕ) (xs rest : List ℕ) → at ≤ length xs → take at (t
 front at more xs rest within = take-append-le at (take (at + more) xs) rest (omega (arith, length-take (at + more) xs)) ∙ take-take at (at + more) xs (omega arith)
 
 -- what was in a list so far stays there, also where the list gets longer
-Stays : {Z : Type 0} → ℕ → Vec ℕ Z → Vec ℕ Z → Type 0
+abbrev Stays : {Z : Type 0} → ℕ → Vec ℕ Z → Vec ℕ Z → Type 0
 Stays filled old new = (filled ≤ new.len) × (take filled new.items ≡ take filled old.items)
 
 untouched : {Z : Type 0} (filled : ℕ) (old new : Vec ℕ Z) → new ≡ old → filled ≤ old.len → Stays filled old new
@@ -51,22 +51,22 @@ resized filled more rest old new longer same few items within =
 
 pub returns-in_err-n-clause-front : goal.returns-in_err-n-clause-front
 returns-in_err-n-clause-front g c =
-    let grown : Stays c.args.filled c.args.bytes.now c.if-filled-len.bytes = elim c.if-filled-len.branch as (λ _. Stays c.args.filled c.args.bytes.now c.if-filled-len.bytes) [ then-filled-len+in_ok-resize w ↦ resized c.args.filled _ _ _ _ _ w.bytes-is (omega (arith, w.in_ok-resize.ensures.len)) w.in_ok-resize.ensures.items c.requires.filled | else-filled-len w ↦ untouched c.args.filled _ _ w.bytes-is c.requires.filled ] in
+    let grown : Stays c.args.filled c.args.bytes.now c.if-filled-len.bytes = elim c.if-filled-len.branch as (λ _. Stays c.args.filled c.args.bytes.now c.if-filled-len.bytes) [ then-filled-len+in_ok-resize w ↦ resized c.args.filled _ _ c.args.bytes.now _ _ w.bytes-is (omega (arith, w.in_ok-resize.ensures.len)) w.in_ok-resize.ensures.items c.requires.filled | else-filled-len w ↦ untouched c.args.filled _ _ w.bytes-is c.requires.filled ] in
     kept c.if-filled-len.bytes c.args.filled c.deref_mut.result.now c.read.new.buf c.deref_mut.ensures.value grown.0 c.read.auto.buf ∙ grown.1
 
 pub returns-clause-front : goal.returns-clause-front
 returns-clause-front g c =
-    let grown : Stays c.args.filled c.args.bytes.now c.if-filled-len.bytes = elim c.if-filled-len.branch as (λ _. Stays c.args.filled c.args.bytes.now c.if-filled-len.bytes) [ then-filled-len+in_ok-resize w ↦ resized c.args.filled _ _ _ _ _ w.bytes-is (omega (arith, w.in_ok-resize.ensures.len)) w.in_ok-resize.ensures.items c.requires.filled | else-filled-len w ↦ untouched c.args.filled _ _ w.bytes-is c.requires.filled ] in
+    let grown : Stays c.args.filled c.args.bytes.now c.if-filled-len.bytes = elim c.if-filled-len.branch as (λ _. Stays c.args.filled c.args.bytes.now c.if-filled-len.bytes) [ then-filled-len+in_ok-resize w ↦ resized c.args.filled _ _ c.args.bytes.now _ _ w.bytes-is (omega (arith, w.in_ok-resize.ensures.len)) w.in_ok-resize.ensures.items c.requires.filled | else-filled-len w ↦ untouched c.args.filled _ _ w.bytes-is c.requires.filled ] in
     kept c.if-filled-len.bytes c.args.filled c.deref_mut.result.now c.read.new.buf c.deref_mut.ensures.value grown.0 c.read.auto.buf ∙ grown.1
 
 pub returns-clause-read : goal.returns-clause-read
 returns-clause-read g c =
-    let grown : Stays c.args.filled c.args.bytes.now c.if-filled-len.bytes = elim c.if-filled-len.branch as (λ _. Stays c.args.filled c.args.bytes.now c.if-filled-len.bytes) [ then-filled-len+in_ok-resize w ↦ resized c.args.filled _ _ _ _ _ w.bytes-is (omega (arith, w.in_ok-resize.ensures.len)) w.in_ok-resize.ensures.items c.requires.filled | else-filled-len w ↦ untouched c.args.filled _ _ w.bytes-is c.requires.filled ] in
+    let grown : Stays c.args.filled c.args.bytes.now c.if-filled-len.bytes = elim c.if-filled-len.branch as (λ _. Stays c.args.filled c.args.bytes.now c.if-filled-len.bytes) [ then-filled-len+in_ok-resize w ↦ resized c.args.filled _ _ c.args.bytes.now _ _ w.bytes-is (omega (arith, w.in_ok-resize.ensures.len)) w.in_ok-resize.ensures.items c.requires.filled | else-filled-len w ↦ untouched c.args.filled _ _ w.bytes-is c.requires.filled ] in
     let piece = behind c.if-filled-len.bytes c.args.filled c.deref_mut.result.now c.read.new.buf c.deref_mut.ensures.value grown.0 c.read.auto.buf c.in_ok-n.n c.in_ok-n.ensures.bound.0 in
     subst (Consumes (g.F.Shelf.left c.args.shelf.now) (g.F.Shelf.left c.read.new.self)) (sym piece) c.in_ok-n.ensures.bytes.0
 
 pub returns-clause-taken : goal.returns-clause-taken
 returns-clause-taken g c =
-    let grown : Stays c.args.filled c.args.bytes.now c.if-filled-len.bytes = elim c.if-filled-len.branch as (λ _. Stays c.args.filled c.args.bytes.now c.if-filled-len.bytes) [ then-filled-len+in_ok-resize w ↦ resized c.args.filled _ _ _ _ _ w.bytes-is (omega (arith, w.in_ok-resize.ensures.len)) w.in_ok-resize.ensures.items c.requires.filled | else-filled-len w ↦ untouched c.args.filled _ _ w.bytes-is c.requires.filled ] in
+    let grown : Stays c.args.filled c.args.bytes.now c.if-filled-len.bytes = elim c.if-filled-len.branch as (λ _. Stays c.args.filled c.args.bytes.now c.if-filled-len.bytes) [ then-filled-len+in_ok-resize w ↦ resized c.args.filled _ _ c.args.bytes.now _ _ w.bytes-is (omega (arith, w.in_ok-resize.ensures.len)) w.in_ok-resize.ensures.items c.requires.filled | else-filled-len w ↦ untouched c.args.filled _ _ w.bytes-is c.requires.filled ] in
     let piece = behind c.if-filled-len.bytes c.args.filled c.deref_mut.result.now c.read.new.buf c.deref_mut.ensures.value grown.0 c.read.auto.buf c.in_ok-n.n c.in_ok-n.ensures.bound.0 in
     c.in_ok-n.ensures.taken ∙ ap (λ read. handed_out read (c.in_ok-n.n == 0) (g.F.Shelf.taken c.args.shelf.now)) (sym piece)
