@@ -1,5 +1,5 @@
 """Cycles of drawn matrices without a valid order, as `solve`, `extend` and `core` print them: none has two flips, or more lines than half
-the ordered pairs and one."""
+the ordered pairs and one. And where three neighbours in a long chain show why a row is refused, the cycle of `solve` has few lines."""
 
 import itertools
 import random
@@ -12,6 +12,10 @@ from sessions import cycle_lines
 GROUPS = 20
 # The cycles of a group that each of the three commands prints.
 CYCLES = 50
+CHAINS = 10
+CHAIN_COLUMNS = 200
+# Three lines are enough. A cycle that leads through the whole chain has nearly as many as there are columns.
+MOST_CHAIN_LINES = 25
 
 
 def drawn_rows(rng, columns, count):
@@ -76,7 +80,27 @@ def group_problem(seed):
     return None
 
 
+def chain_problem(seed):
+    """What is wrong with the cycle of a chain, or None: each row has two neighbours of a drawn order, and the last one 21 columns in turn
+    but the one in their middle."""
+    rng = random.Random(seed)
+    order = rng.sample(range(1, CHAIN_COLUMNS + 1), CHAIN_COLUMNS)
+    rows = [set(pair) for pair in zip(order, order[1:])]
+    rng.shuffle(rows)
+    start = rng.randrange(CHAIN_COLUMNS - 20)
+    rows.append(set(order[start:start + 21]) - {order[start + 10]})
+    done = run(["solve", "matrix", "-"], dense(CHAIN_COLUMNS, rows))
+    if done.returncode != 1:
+        return f"status {done.returncode}"
+    lines = done.stdout.decode().split("\n")[6:-2]
+    if len(lines) > MOST_CHAIN_LINES:
+        return f"{len(lines)} lines"
+    return printed_problem(CHAIN_COLUMNS, rows, lines)
+
+
 def checks():
-    """Each group of drawn cycles by its name, with what tells its problem."""
+    """Each group of drawn cycles and each chain by its name, with what tells its problem."""
     for seed in range(GROUPS):
         yield f"short cycles {seed}", group_problem, (seed,)
+    for seed in range(CHAINS):
+        yield f"short cycles of a chain {seed}", chain_problem, (seed,)
