@@ -1,16 +1,17 @@
 // The lines of what a kind adds to a yes, both ways.
-ghost use Rattle.std.specs.Prelude.{◌≡◌, ◌++◌, OnOk, OnErr};
+ghost use Rattle.std.specs.Prelude.{◌≡◌, ◌≤◌, ◌++◌, IfOk, OnOk, OnErr};
+ghost use Rattle.plain_text.specs.Numbers.{number_at};
 ghost use Rattle.plain_text.specs.Pieces.{Extends};
 ghost use Rattle.plain_text.specs.Rest.{with_rest};
 ghost use Rattle.text_parts.specs.Seen.{Gives};
-ghost use Rattle.verdict_text.specs.Reading.{interval_at, place_at, where_at, contig_at, ends_at};
+ghost use Rattle.verdict_text.specs.Reading.{interval_at, place_at, where_at, contig_at, ends_at, two_at};
 ghost use Rattle.verdict_text.specs.Text.{interval_line, ends_text, place_text, place_line, contig_line};
 
 use crate::NoMemory;
-use crate::read::{after_index, read_end};
-use plain_text::{after_word, push_number};
+use crate::read::after_index;
+use plain_text::{after_word, number, push_number};
 use row_model::{Interval, Place, Span};
-use text_parts::{LineForm, Stop, after, push, push_word, read_number};
+use text_parts::{LineForm, Stop, after, push, push_word};
 
 // The line of an interval.
 pub(crate) struct IntervalLine;
@@ -34,14 +35,10 @@ impl LineForm for IntervalLine {
         push(text, b"\n")
     }
 
-    #[tactic(auto, unfolding(crate::specs::Reading::interval_at, crate::specs::Reading::two_at))]
+    #[tactic(auto, unfolding(crate::specs::Reading::interval_at))]
     fn read(i: u32, bytes: &[u8]) -> Result<(Interval, &[u8]), Stop> {
         let rest = after_index(bytes, b"interval ", i)?;
-        let rest = after(rest, b" ")?;
-        let (left, rest) = read_end(rest)?;
-        let rest = after(rest, b" ")?;
-        let (right, rest) = read_end(rest)?;
-        let rest = after(rest, b"\n")?;
+        let ((left, right), rest) = read_two(rest, u64::MAX)?;
         Ok((Interval { left, right }, rest))
     }
 
@@ -137,14 +134,39 @@ impl LineForm for ContigLine {
 }
 
 // The two ends of a span, and the end of the line.
-#[tactic(auto, unfolding(crate::specs::Reading::ends_at, crate::specs::Reading::two_at))]
+#[tactic(auto, unfolding(crate::specs::Reading::ends_at))]
 fn read_ends(bytes: &[u8]) -> Result<(Span, &[u8]), Stop>
     ensures { Gives with_rest result (ends_at bytes.now) }
 {
+    let ((first, last), rest) = read_two(bytes, u64::from(u32::MAX))?;
+    let span = Span {
+        first: first as u32,
+        last: last as u32,
+    };
+    Ok((span, rest))
+}
+
+// Two numbers up to a limit, each behind a space, and the end of the line.
+#[tactic(auto, unfolding(crate::specs::Reading::two_at))]
+fn read_two(bytes: &[u8], limit: u64) -> Result<((u64, u64), &[u8]), Stop>
+    ensures value { Gives with_rest result (two_at limit bytes.now) }
+    ensures within { IfOk result (λ x. (x.0.0 ≤ limit) × (x.0.1 ≤ limit)) }
+{
     let rest = after(bytes, b" ")?;
-    let (first, rest) = read_number(rest)?;
+    let (first, rest) = read_end(rest, limit)?;
     let rest = after(rest, b" ")?;
-    let (last, rest) = read_number(rest)?;
+    let (last, rest) = read_end(rest, limit)?;
     let rest = after(rest, b"\n")?;
-    Ok((Span { first, last }, rest))
+    Ok(((first, last), rest))
+}
+
+// A number up to a limit.
+fn read_end(bytes: &[u8], limit: u64) -> Result<(u64, &[u8]), Stop>
+    ensures value { Gives with_rest result (number_at limit bytes.now) }
+    ensures within { IfOk result (λ x. x.0 ≤ limit) }
+{
+    match number(bytes, limit) {
+        None => Err(Stop::Outside),
+        Some(x) => Ok(x),
+    }
 }

@@ -1,19 +1,17 @@
 // A verdict, read from the front of bytes. Each reader gives what it read and the bytes after it.
-ghost use Rattle.plain_text.specs.Numbers.{number_at};
-ghost use Rattle.plain_text.specs.Rest.{with_rest, rest_of};
-ghost use Rattle.text_parts.specs.Grammar.{max_number};
-ghost use Rattle.verdict_text.specs.Grammar.{max_end, side_count, AreColumnCounts};
+ghost use Rattle.verdict_text.specs.Value.{column_counts, verdict_value};
+ghost use Rattle.plain_text.specs.Rest.{rest_of};
+ghost use Rattle.verdict_text.specs.Grammar.{side_count, AreColumnCounts};
 ghost use Rattle.verdict_text.specs.Reading.{index_at, claim_at, verdict_of};
 ghost use Rattle.text_parts.specs.Seen.{Gives};
 ghost use Rattle.verdict_text.specs.Seen.{part_seen};
-ghost use Rattle.verdict_text.specs.Value.{column_counts, verdict_value};
 
 mod head;
 mod no;
 mod yes;
 
 use crate::verdict::{Columns, Part, Verdict};
-use plain_text::{after_word, number};
+use plain_text::after_word;
 use row_model::Kind;
 use std::alloc::Global;
 use text_parts::{Stop, after, read_number};
@@ -57,16 +55,6 @@ fn read_part(
             let (part, rest) = no::read_no(alloc, head::side_count(kind), rest)?;
             Ok((Part::No(part), rest))
         }
-    }
-}
-
-// An end of an interval.
-pub(crate) fn read_end(bytes: &[u8]) -> Result<(u64, &[u8]), Stop>
-    ensures { Gives with_rest result (number_at max_end bytes.now) }
-{
-    match number(bytes, u64::MAX) {
-        None => Err(Stop::Outside),
-        Some(x) => Ok(x),
     }
 }
 

@@ -1,4 +1,4 @@
-use Rattle.std.proofs.Common.{◌≡◌, [], ◌∷◌, length, sym, ap, subst}
+use Rattle.std.proofs.Common.{sym, ap, subst}
 use Rattle.std.specs.Prelude.{IfOk}
 use Rattle.verdict_text.specs.Grammar.{HasAdded}
 use Rattle.verdict_text.specs.Value.{yes_value}

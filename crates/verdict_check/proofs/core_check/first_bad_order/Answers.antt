@@ -3,6 +3,7 @@ use Rattle.std.proofs.lemmas.Bool.{both_ways}
 use Rattle.verdict_check.specs.Core.{PassesCoreOrder, PassesCore}
 use Rattle.verdict_check.specs.declared.core_outcome.CoreReason.TheVariants as reason
 use Rattle.verdict_check.proofs.CoreTests.{finds_item, all_items, order_tested}
+use Rattle.std.proofs.lemmas.Result.{IfOk-from_err}
 use Rattle.verdict_check.proofs.core_check.first_bad_order.Goals as goal
 
 pub overflow_cast-i : goal.overflow_cast-i
@@ -26,3 +27,12 @@ loop-i-preserved c =
 pub returns : goal.returns
 returns c kind =
     all_items (PassesCore c.args.m.now kind c.args.t.now) reason.Order c.args.t.now.parts.rows 0 (λ j l. c.loop-i.invariant j (omega (arith, l, ap length c.rows-rows.ensures.rows, c.loop-i-test.false)))
+
+pub returns-in_err-are_kept : goal.returns-in_err-are_kept
+returns-in_err-are_kept c = IfOk-from_err c.from_residual-in_err-are_kept.result _ c.from_residual-in_err-are_kept.ensures.0
+
+pub returns-in_err-others : goal.returns-in_err-others
+returns-in_err-others c = IfOk-from_err c.from_residual.result _ c.from_residual.ensures.0
+
+pub are_kept-requires-clause-within : goal.are_kept-requires-clause-within
+are_kept-requires-clause-within c = c.loop-i-test.true

@@ -4,6 +4,7 @@ use Rattle.row_model.specs.Graph.{IsPair}
 use Rattle.verdict_check.specs.NoTests.{PassesRepeat}
 use Rattle.verdict_check.proofs.Lines.{pair_here}
 use Rattle.verdict_check.proofs.ChainLaws.{all_passed, given_back, zeros_low, none_tested, least_fails, tested_more}
+use Rattle.std.proofs.lemmas.Result.{IfOk-from_err}
 use Rattle.verdict_check.proofs.repeats.first_repeat_by_chains.Goals as goal
 
 pub least_in_chain-least-requires-clause-pairs : goal.least_in_chain-least-requires-clause-pairs
@@ -49,3 +50,21 @@ loop-a-preserved c =
       fails = least_fails c.loop-a.least c.least_in_chain-least.result c.args.lines.now found.fails c.loop-a.invariant.fails;
       passed = tested_more c.loop-a.a c.loop-a.least c.least_in_chain-least.result c.args.lines.now found.bound found.passed c.loop-a.invariant.passed;
     }
+
+pub returns-in_err-stamps : goal.returns-in_err-stamps
+returns-in_err-stamps c = IfOk-from_err c.from_residual-in_err-stamps.result _ c.from_residual-in_err-stamps.ensures.0
+
+pub returns-in_err-chains : goal.returns-in_err-chains
+returns-in_err-chains c = IfOk-from_err c.from_residual.result _ c.from_residual.ensures.0
+
+pub chains_of-requires-clause-pairs : goal.chains_of-requires-clause-pairs
+chains_of-requires-clause-pairs c = c.requires.pairs
+
+pub chains_of-requires-clause-few : goal.chains_of-requires-clause-few
+chains_of-requires-clause-few c = c.requires.few
+
+pub least_in_chain-least-requires-clause-least : goal.least_in_chain-least-requires-clause-least
+least_in_chain-least-requires-clause-least c = c.loop-a.invariant.bound
+
+pub least_in_chain-least-requires-clause-chains : goal.least_in_chain-least-requires-clause-chains
+least_in_chain-least-requires-clause-chains c = c.in_ok-chains.ensures.chains

@@ -1,6 +1,7 @@
 use Rattle.std.proofs.Common.{◌∙◌, sym, arith}
 use Rattle.row_model.specs.Graph.{IsPair}
 use Rattle.verdict_check.proofs.Lines.{pair_here, each_more, least_here, marked_next, repeat_fails, repeat_passes}
+use Rattle.std.proofs.lemmas.Result.{IfOk-from_err}
 use Rattle.verdict_check.proofs.repeats.first_repeat_by_table.Goals as goal
 
 pub mark-requires-clause-row : goal.mark-requires-clause-row
@@ -22,3 +23,6 @@ loop-i-preserved c =
       marked_next _ _ _ _ _ _ c.loop-i-test.true c.loop-i.invariant.0 p c.mark.ensures.after,
       each_more _ _ c.loop-i.invariant.1 (repeat_passes _ _ _ _ _ c.loop-i-test.true c.loop-i.invariant.0 p (sym c.mark.ensures.before ∙ c.if-mark.false)),
     )
+
+pub returns-in_err-seen : goal.returns-in_err-seen
+returns-in_err-seen c = IfOk-from_err c.from_residual.result _ c.from_residual.ensures.0

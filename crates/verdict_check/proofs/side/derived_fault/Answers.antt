@@ -8,6 +8,8 @@ use Rattle.verdict_check.specs.Found.{IsLeastFailing}
 use Rattle.verdict_check.specs.YesTests.{AllKeep}
 use Rattle.verdict_check.proofs.Sides.{side_tree}
 use Rattle.verdict_check.proofs.SideTests.{order_fails, row_fails, rows_pass_ok, kept_by_all, proper_columns}
+use Rattle.std.proofs.lemmas.Result.{IfOk-from_err}
+use Rattle.verdict_check.proofs.StepSums.{of_order, of_tree, of_all}
 use Rattle.verdict_check.proofs.side.derived_fault.Goals as goal
 
 pub returns-then-not-branch-clause-finds : goal.returns-then-not-branch-clause-finds
@@ -45,3 +47,27 @@ pub complete_fault-requires-clause-kept : goal.complete_fault-requires-clause-ke
 complete_fault-requires-clause-kept g c =
     kept_by_all (outline c.tree-tree.result.now) c.args.derived.now.rows
     (subst (IsLeastFailing (λ k. AllKeep (outline c.tree-tree.result.now) (row_at c.args.derived.now.rows k)) (length c.args.derived.now.rows)) c.in-None.is c.in_ok-k.ensures.least)
+
+pub returns-in_err-is_textbook_order-clause-finds : goal.returns-in_err-is_textbook_order-clause-finds
+returns-in_err-is_textbook_order-clause-finds g c = IfOk-from_err c.from_residual.result _ c.from_residual.ensures.0
+
+pub returns-in_err-k-clause-finds : goal.returns-in_err-k-clause-finds
+returns-in_err-k-clause-finds g c = IfOk-from_err c.from_residual-in_err-k.result _ c.from_residual-in_err-k.ensures.0
+
+pub is_textbook_order-requires : goal.is_textbook_order-requires
+is_textbook_order-requires g c = c.requires.formed
+
+pub returns-in_err-is_textbook_order-clause-ticks : goal.returns-in_err-is_textbook_order-clause-ticks
+returns-in_err-is_textbook_order-clause-ticks g c = of_order _ _ _ _ c.in_err-is_textbook_order.ensures.ticks
+
+pub returns-then-not-branch-clause-ticks : goal.returns-then-not-branch-clause-ticks
+returns-then-not-branch-clause-ticks g c = of_order _ _ _ _ c.in_ok-is_textbook_order.ensures.ticks
+
+pub returns-in_err-k-clause-ticks : goal.returns-in_err-k-clause-ticks
+returns-in_err-k-clause-ticks g c = of_tree _ _ _ _ _ _ c.in_ok-is_textbook_order.ensures.ticks c.in_err-k.ensures.ticks
+
+pub returns-in-Some-clause-ticks : goal.returns-in-Some-clause-ticks
+returns-in-Some-clause-ticks g c = of_tree _ _ _ _ _ _ c.in_ok-is_textbook_order.ensures.ticks c.in_ok-k.ensures.ticks
+
+pub returns-in-None-clause-ticks : goal.returns-in-None-clause-ticks
+returns-in-None-clause-ticks g c = of_all _ _ _ _ _ _ _ c.in_ok-is_textbook_order.ensures.ticks c.in_ok-k.ensures.ticks c.complete_fault.ensures.ticks
