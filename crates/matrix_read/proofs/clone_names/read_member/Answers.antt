@@ -1,5 +1,6 @@
-use Rattle.std.proofs.Common.{◌≡◌, codes, true, ap, ap₂, sym, ◌∙◌}
+use Rattle.std.proofs.Common.{◌≡◌, codes, true, ap, ap₂, sym, ◌∙◌, arith}
 use Rattle.std.specs.Str.{bytes_eq}
+use Rattle.std.proofs.lemmas.Result.{IfOk-from_err}
 use Rattle.matrix_read.specs.JsonSteps.{value_at}
 use Rattle.matrix_read.specs.CloneNames.{NamesValue, array_clones}
 use Rattle.matrix_read.proofs.FileLemmas.{mapped_some, probes_kept, clones_put, clones_kept, not_probes}
@@ -24,3 +25,33 @@ returns-clause-ok c =
       is = m.is;
       names = λ found same. ap₂ (λ p q. (p, q)) (m.names found (ap (λ (n : NamesValue). n.0) same)) (clones_kept c.args.key.now m.value found (sym c.if-eq.ensures) ∙ ap (λ (n : NamesValue). n.1) same);
     }
+
+pub returns-clause-err : goal.returns-clause-err
+returns-clause-err c same = absurd (cc)
+
+pub returns-clause-shorter : goal.returns-clause-shorter
+returns-clause-shorter c = c.in_ok-read_probes_at.ensures.shorter
+
+pub read_clones-requires : goal.read_clones-requires
+read_clones-requires c = c.requires
+
+pub read_probes_at-requires : goal.read_probes_at-requires
+read_probes_at-requires c = omega (arith, c.requires)
+
+pub returns-in_err-read_probes_at-clause-shorter : goal.returns-in_err-read_probes_at-clause-shorter
+returns-in_err-read_probes_at-clause-shorter c = IfOk-from_err c.from_residual-in_err-read_probes_at.result _ c.from_residual-in_err-read_probes_at.ensures.0
+
+pub returns-in_err-read_probes_at-clause-ok : goal.returns-in_err-read_probes_at-clause-ok
+returns-in_err-read_probes_at-clause-ok c = IfOk-from_err c.from_residual-in_err-read_probes_at.result _ c.from_residual-in_err-read_probes_at.ensures.0
+
+pub returns-in_err-names-clause-shorter : goal.returns-in_err-names-clause-shorter
+returns-in_err-names-clause-shorter c = IfOk-from_err c.from_residual.result _ c.from_residual.ensures.0
+
+pub returns-in_err-names-clause-ok : goal.returns-in_err-names-clause-ok
+returns-in_err-names-clause-ok c = IfOk-from_err c.from_residual.result _ c.from_residual.ensures.0
+
+pub returns-then-eq-clause-err : goal.returns-then-eq-clause-err
+returns-then-eq-clause-err c same = absurd (cc)
+
+pub returns-then-eq-clause-shorter : goal.returns-then-eq-clause-shorter
+returns-then-eq-clause-shorter c = c.in_ok-names.ensures.shorter

@@ -1,0 +1,42 @@
+use Rattle.std.proofs.Common.{◌∙◌, length, ap, sym, refl, arith}
+use Rattle.row_model.specs.Rows.{RowList}
+use Rattle.matrix_read.proofs.MarkLemmas.{none_set}
+use Rattle.std.proofs.lemmas.Result.{IfOk-from_err}
+use Rattle.matrix_read.proofs.named_rows.NamedRows.new.Goals as goal
+
+pub with_room-requires : goal.with_room-requires
+with_room-requires c = c.requires.range
+
+pub invariant_of-result : goal.invariant_of-result
+invariant_of-result c = record {
+  few_passed = c.requires.passed;
+  few = omega (arith, ap (λ (m : RowList). length m.rows) c.in_ok-matrix.ensures);
+  small = omega (arith, ap (λ (m : RowList). m.columns) c.in_ok-matrix.ensures, c.requires.range.1);
+  mark_each = c.in_ok-marks.ensures.len ∙ sym (ap (λ (m : RowList). m.columns) c.in_ok-matrix.ensures);
+  clear = none_set c.in_ok-marks.marks.items c.args.c (c.in_ok-marks.ensures.items_if_clones_equal (λ y e. e));
+  entry_each = c.in_ok-columns.ensures.len ∙ sym (ap (λ (m : RowList). m.columns) c.in_ok-matrix.ensures);
+}
+
+pub returns-in_err-matrix-clause-passed : goal.returns-in_err-matrix-clause-passed
+returns-in_err-matrix-clause-passed c = IfOk-from_err c.from_residual.result _ c.from_residual.ensures.0
+
+pub returns-in_err-matrix-clause-matrix : goal.returns-in_err-matrix-clause-matrix
+returns-in_err-matrix-clause-matrix c = IfOk-from_err c.from_residual.result _ c.from_residual.ensures.0
+
+pub returns-in_err-marks-clause-passed : goal.returns-in_err-marks-clause-passed
+returns-in_err-marks-clause-passed c = IfOk-from_err c.from_residual-in_err-marks.result _ c.from_residual-in_err-marks.ensures.0
+
+pub returns-in_err-marks-clause-matrix : goal.returns-in_err-marks-clause-matrix
+returns-in_err-marks-clause-matrix c = IfOk-from_err c.from_residual-in_err-marks.result _ c.from_residual-in_err-marks.ensures.0
+
+pub returns-in_err-columns-clause-passed : goal.returns-in_err-columns-clause-passed
+returns-in_err-columns-clause-passed c = IfOk-from_err c.from_residual-in_err-columns.result _ c.from_residual-in_err-columns.ensures.0
+
+pub returns-in_err-columns-clause-matrix : goal.returns-in_err-columns-clause-matrix
+returns-in_err-columns-clause-matrix c = IfOk-from_err c.from_residual-in_err-columns.result _ c.from_residual-in_err-columns.ensures.0
+
+pub returns-clause-passed : goal.returns-clause-passed
+returns-clause-passed c = refl
+
+pub returns-clause-matrix : goal.returns-clause-matrix
+returns-clause-matrix c = c.in_ok-matrix.ensures
