@@ -47,12 +47,12 @@ pub fn read_table(alloc: Global, bytes: &[u8]) -> Result<Read<Matrix>, NoMemory>
     if bytes.len() as u64 > MAX_FILE_BYTES {
         return Ok(refused(code::LIMIT, 0));
     }
+    // No record has more fields than this, so its room never grows, and room that is not used is never touched.
+    let mut fields = ByteRecord::with_capacity(alloc, bytes.len(), bytes.len() + 1)?;
     let mut reader = ReaderBuilder::new()
         .has_headers(false)
         .flexible(true)
         .from_reader(alloc, bytes);
-    // No record has more fields than this, so its room never grows, and room that is not used is never touched.
-    let mut fields = ByteRecord::with_capacity(alloc, bytes.len(), bytes.len() + 1)?;
     read_records(alloc, &mut reader, &mut fields)
 }
 
@@ -69,29 +69,28 @@ fn read_records(
         return Ok(refused(code::EMPTY, 0));
     }
     let begun = read_header(alloc, fields)?;
-    read_further(alloc, reader, fields, begun)
+    read_further(reader, fields, begun, &mut Vec::new(alloc))
 }
 
 // Reads the records after the header, which is in `fields`. All of them are read even after a refusal, since one of
-// another length is refused before everything else.
+// another length is refused before everything else. Each row stands in `columns` before it is added.
 fn read_further(
-    alloc: Global,
     reader: &mut Reader<&[u8]>,
     fields: &mut ByteRecord,
     begun: Read<Matrix>,
+    columns: &mut Vec<u32>,
 ) -> Result<Read<Matrix>, NoMemory>
     requires plain { IsPlain reader.old }
     requires within { FitsRecords (length (fields_of fields.old)) begun }
     ensures { IfOk result (λ read. read ≡ with_even_records (length (fields_of fields.old)) begun (records_left reader.old)) }
 {
     let width = fields.len();
-    let mut columns = Vec::new(alloc);
     let mut so_far = begun;
     while next_record(reader, fields)? {
         if fields.len() != width {
             return Ok(refused(code::CSV, 0));
         }
-        so_far = with_record(so_far, fields, &mut columns)?;
+        so_far = with_record(so_far, fields, columns)?;
     }
     Ok(so_far)
 }
