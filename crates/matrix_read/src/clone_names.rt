@@ -158,8 +158,7 @@ fn read_member<'a>(
         names.clones = read_clones(alloc, reader, depth)?;
         return Ok(());
     }
-    read_probes_at(alloc, reader, depth, key, &mut names.probes)?;
-    Ok(())
+    read_probes_at(alloc, reader, depth, key, &mut names.probes)
 }
 
 // Reads the value of a member with this key. That under `probes` is kept, and any other is passed over.

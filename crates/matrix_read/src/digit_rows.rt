@@ -36,9 +36,9 @@ impl DigitRows {
         requires range { (1 ≤ width) × (width ≤ MAX_COLUMNS) }
         ensures { IfOk result (λ rows. rows.matrix ≡ record { columns = width; rows = [] }) }
     {
+        let columns = vec![in alloc; 0u32; width as usize]?;
         // A line takes a byte for each column or more. Where more than a quarter are ones, their list grows later.
         let matrix = Matrix::with_room(alloc, width, bytes / width as usize, bytes / 4)?;
-        let columns = vec![in alloc; 0u32; width as usize]?;
         Ok(DigitRows { matrix, columns })
     }
 

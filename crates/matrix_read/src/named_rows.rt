@@ -37,10 +37,10 @@ impl NamedRows {
         ensures passed { IfOk result (λ rows. rows.passed ≡ passed) }
         ensures matrix { IfOk result (λ rows. rows.matrix ≡ record { columns = c; rows = [] }) }
     {
-        // Most numbers take four bytes of a line or more.
-        let matrix = Matrix::with_room(alloc, c, bytes / 4, bytes / 4)?;
         let marks = vec![in alloc; false; c as usize]?;
         let columns = vec![in alloc; 0u32; c as usize]?;
+        // Most numbers take four bytes of a line or more.
+        let matrix = Matrix::with_room(alloc, c, bytes / 4, bytes / 4)?;
         Ok(NamedRows {
             passed,
             matrix,

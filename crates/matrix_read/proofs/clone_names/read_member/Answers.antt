@@ -1,6 +1,6 @@
 use Rattle.std.proofs.Common.{◌≡◌, codes, true, ap, ap₂, sym, ◌∙◌, arith}
 use Rattle.std.specs.Str.{bytes_eq}
-use Rattle.std.proofs.lemmas.Result.{IfOk-from_err}
+use Rattle.std.proofs.lemmas.Result.{IfOk-from_err, on_ok_weaker}
 use Rattle.matrix_read.specs.JsonSteps.{value_at}
 use Rattle.matrix_read.specs.CloneNames.{NamesValue, array_clones}
 use Rattle.matrix_read.proofs.FileLemmas.{mapped_some, probes_kept, clones_put, clones_kept, not_probes}
@@ -18,31 +18,23 @@ returns-then-eq-clause-ok c =
     }
 
 pub returns-clause-ok : goal.returns-clause-ok
-returns-clause-ok c =
-    let m = c.in_ok-read_probes_at.ensures.ok in
-    record {
-      value = m.value;
-      is = m.is;
-      names = λ found same. ap₂ (λ p q. (p, q)) (m.names found (ap (λ (n : NamesValue). n.0) same)) (clones_kept c.args.key.now m.value found (sym c.if-eq.ensures) ∙ ap (λ (n : NamesValue). n.1) same);
-    }
+returns-clause-ok c = on_ok_weaker c.read_probes_at.result (λ m. record {
+  value = m.value;
+  is = m.is;
+  names = λ found same. ap₂ (λ p q. (p, q)) (m.names found (ap (λ (n : NamesValue). n.0) same)) (clones_kept c.args.key.now m.value found (sym c.if-eq.ensures) ∙ ap (λ (n : NamesValue). n.1) same);
+}) c.read_probes_at.ensures.ok
 
 pub returns-clause-err : goal.returns-clause-err
-returns-clause-err c same = absurd (cc)
+returns-clause-err c = c.read_probes_at.ensures.err
 
 pub returns-clause-shorter : goal.returns-clause-shorter
-returns-clause-shorter c = c.in_ok-read_probes_at.ensures.shorter
+returns-clause-shorter c = c.read_probes_at.ensures.shorter
 
 pub read_clones-requires : goal.read_clones-requires
 read_clones-requires c = c.requires
 
 pub read_probes_at-requires : goal.read_probes_at-requires
 read_probes_at-requires c = omega (arith, c.requires)
-
-pub returns-in_err-read_probes_at-clause-shorter : goal.returns-in_err-read_probes_at-clause-shorter
-returns-in_err-read_probes_at-clause-shorter c = IfOk-from_err c.from_residual-in_err-read_probes_at.result _ c.from_residual-in_err-read_probes_at.ensures.0
-
-pub returns-in_err-read_probes_at-clause-ok : goal.returns-in_err-read_probes_at-clause-ok
-returns-in_err-read_probes_at-clause-ok c = IfOk-from_err c.from_residual-in_err-read_probes_at.result _ c.from_residual-in_err-read_probes_at.ensures.0
 
 pub returns-in_err-names-clause-shorter : goal.returns-in_err-names-clause-shorter
 returns-in_err-names-clause-shorter c = IfOk-from_err c.from_residual.result _ c.from_residual.ensures.0

@@ -12,10 +12,10 @@ invariant_of-result c =
     record { entry_each = c.in_ok-columns.ensures.len ∙ sym width; small = omega (arith, width, c.requires.range.1) }
 
 pub returns-in_err-matrix : goal.returns-in_err-matrix
-returns-in_err-matrix c = IfOk-from_err c.from_residual.result _ c.from_residual.ensures.0
+returns-in_err-matrix c = IfOk-from_err c.from_residual-in_err-matrix.result _ c.from_residual-in_err-matrix.ensures.0
 
 pub returns-in_err-columns : goal.returns-in_err-columns
-returns-in_err-columns c = IfOk-from_err c.from_residual-in_err-columns.result _ c.from_residual-in_err-columns.ensures.0
+returns-in_err-columns c = IfOk-from_err c.from_residual.result _ c.from_residual.ensures.0
 
 pub returns : goal.returns
 returns c = c.in_ok-matrix.ensures

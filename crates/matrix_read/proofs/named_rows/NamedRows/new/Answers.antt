@@ -18,16 +18,16 @@ invariant_of-result c = record {
 }
 
 pub returns-in_err-matrix-clause-passed : goal.returns-in_err-matrix-clause-passed
-returns-in_err-matrix-clause-passed c = IfOk-from_err c.from_residual.result _ c.from_residual.ensures.0
+returns-in_err-matrix-clause-passed c = IfOk-from_err c.from_residual-in_err-matrix.result _ c.from_residual-in_err-matrix.ensures.0
 
 pub returns-in_err-matrix-clause-matrix : goal.returns-in_err-matrix-clause-matrix
-returns-in_err-matrix-clause-matrix c = IfOk-from_err c.from_residual.result _ c.from_residual.ensures.0
+returns-in_err-matrix-clause-matrix c = IfOk-from_err c.from_residual-in_err-matrix.result _ c.from_residual-in_err-matrix.ensures.0
 
 pub returns-in_err-marks-clause-passed : goal.returns-in_err-marks-clause-passed
-returns-in_err-marks-clause-passed c = IfOk-from_err c.from_residual-in_err-marks.result _ c.from_residual-in_err-marks.ensures.0
+returns-in_err-marks-clause-passed c = IfOk-from_err c.from_residual.result _ c.from_residual.ensures.0
 
 pub returns-in_err-marks-clause-matrix : goal.returns-in_err-marks-clause-matrix
-returns-in_err-marks-clause-matrix c = IfOk-from_err c.from_residual-in_err-marks.result _ c.from_residual-in_err-marks.ensures.0
+returns-in_err-marks-clause-matrix c = IfOk-from_err c.from_residual.result _ c.from_residual.ensures.0
 
 pub returns-in_err-columns-clause-passed : goal.returns-in_err-columns-clause-passed
 returns-in_err-columns-clause-passed c = IfOk-from_err c.from_residual-in_err-columns.result _ c.from_residual-in_err-columns.ensures.0
