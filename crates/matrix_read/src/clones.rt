@@ -140,18 +140,20 @@ fn clone_matrix(
 {
     let mut marks = vec![in alloc; false; names.len()]?;
     let mut columns = vec![in alloc; 0u32; names.len()]?;
-    filled(alloc, names, clones, &mut marks, &mut columns)
+    let matrix = Matrix::with_room(alloc, names.len() as u32, clones.len(), clones.len())?;
+    filled(matrix, names, clones, &mut marks, &mut columns)
 }
 
-// The same. `marks` and `columns` have an entry for each probe, and no mark is set.
+// Fills a matrix with the rows of clones. `marks` and `columns` have an entry for each probe, and no mark is set.
 fn filled(
-    alloc: Global,
+    mut matrix: Matrix,
     names: &IndexSet<&str>,
     clones: &[Option<Vec<&str>>],
     marks: &mut [bool],
     columns: &mut [u32],
 ) -> Result<Read<Matrix>, NoMemory>
-    requires some { 1 ≤ length names.now.keys }
+    requires empty { matrix.rows ≡ [] }
+    requires width { matrix.columns ≡ length names.now.keys }
     requires small { length names.now.keys ≤ MAX_COLUMNS }
     requires few { length clones.now ≤ MAX_ROWS }
     requires marks { length marks.old ≡ length names.now.keys }
@@ -159,7 +161,6 @@ fn filled(
     requires columns { length columns.old ≡ length names.now.keys }
     ensures { IfOk result (λ read. read ≡ names_matrix (bytes_of names.now.keys) (clones_view clones.now)) }
 {
-    let mut matrix = Matrix::with_room(alloc, names.len() as u32, clones.len(), clones.len())?;
     match push_rows(&mut matrix, names, clones, marks, columns)? {
         Some(refusal) => Ok(Read::Refused(refusal)),
         None => Ok(Read::Ok(matrix)),

@@ -42,8 +42,5 @@ returns-in_err-names-clause-shorter c = IfOk-from_err c.from_residual.result _ c
 pub returns-in_err-names-clause-ok : goal.returns-in_err-names-clause-ok
 returns-in_err-names-clause-ok c = IfOk-from_err c.from_residual.result _ c.from_residual.ensures.0
 
-pub returns-then-eq-clause-err : goal.returns-then-eq-clause-err
-returns-then-eq-clause-err c same = absurd (cc)
-
 pub returns-then-eq-clause-shorter : goal.returns-then-eq-clause-shorter
 returns-then-eq-clause-shorter c = c.in_ok-names.ensures.shorter

@@ -23,29 +23,23 @@ returns-clause-ok c =
 pub returns-in_err-pass-clause-err : goal.returns-in_err-pass-clause-err
 returns-in_err-pass-clause-err c refused = left_none (value_at c.args.depth c.args.reader.now) c.in_err-pass.ensures.value
 
+pub returns-in_err-pass-clause-shorter : goal.returns-in_err-pass-clause-shorter
+returns-in_err-pass-clause-shorter c = IfOk-from_err c.from_residual-in_err-pass.result _ c.from_residual-in_err-pass.ensures.0
+
 pub read_names-requires : goal.read_names-requires
 read_names-requires c = c.requires
-
-pub returns-then-eq-clause-shorter : goal.returns-then-eq-clause-shorter
-returns-then-eq-clause-shorter c = c.in_ok-probes.ensures.shorter
-
-pub returns-then-eq-clause-err : goal.returns-then-eq-clause-err
-returns-then-eq-clause-err c same = absurd (cc)
 
 pub returns-in_err-probes-clause-ok : goal.returns-in_err-probes-clause-ok
 returns-in_err-probes-clause-ok c = IfOk-from_err c.from_residual.result _ c.from_residual.ensures.0
 
-pub returns-in_err-probes-clause-shorter : goal.returns-in_err-probes-clause-shorter
-returns-in_err-probes-clause-shorter c = IfOk-from_err c.from_residual.result _ c.from_residual.ensures.0
+pub returns-then-eq-clause-shorter : goal.returns-then-eq-clause-shorter
+returns-then-eq-clause-shorter c = c.in_ok-probes.ensures.shorter
 
 pub returns-in_err-pass-clause-ok : goal.returns-in_err-pass-clause-ok
 returns-in_err-pass-clause-ok c = IfOk-from_err c.from_residual-in_err-pass.result _ c.from_residual-in_err-pass.ensures.0
 
-pub returns-in_err-pass-clause-shorter : goal.returns-in_err-pass-clause-shorter
-returns-in_err-pass-clause-shorter c = IfOk-from_err c.from_residual-in_err-pass.result _ c.from_residual-in_err-pass.ensures.0
+pub returns-in_err-probes-clause-shorter : goal.returns-in_err-probes-clause-shorter
+returns-in_err-probes-clause-shorter c = IfOk-from_err c.from_residual.result _ c.from_residual.ensures.0
 
 pub returns-clause-shorter : goal.returns-clause-shorter
 returns-clause-shorter c = c.in_ok-pass.ensures.shorter
-
-pub returns-clause-err : goal.returns-clause-err
-returns-clause-err c same = absurd (cc)

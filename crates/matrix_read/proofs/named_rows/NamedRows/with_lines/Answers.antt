@@ -1,5 +1,6 @@
-use Rattle.std.proofs.Common.{◌∙◌, false, get_or, ap, sym}
+use Rattle.std.proofs.Common.{◌∙◌, false, get_or, is_some, ap, sym, arith}
 use Rattle.matrix_read.specs.RowsThen.{refused_or_then}
+use Rattle.matrix_read.proofs.MarkLemmas.{still_clear}
 use Rattle.std.proofs.lemmas.Result.{IfOk-from_err}
 use Rattle.matrix_read.proofs.named_rows.NamedRows.with_lines.Goals as goal
 
@@ -29,3 +30,16 @@ returns-in-None c later = ap (λ refusal. refused_or_then refusal c.args.self.pa
 
 pub returns-in_err-refusal : goal.returns-in_err-refusal
 returns-in_err-refusal c = IfOk-from_err c.from_residual.result _ c.from_residual.ensures.0
+
+pub invariant_of-result : goal.invariant_of-result
+invariant_of-result c =
+    let self = c.args.self in
+    let kept = c.in_ok-refusal.ensures in
+    record {
+      few_passed = self.few_passed;
+      few = kept.few;
+      small = omega (arith, kept.width, self.small);
+      mark_each = self.mark_each ∙ sym kept.width;
+      clear = still_clear _ c.push_rows.new.marks _ (omega (arith, c.push_rows.auto.marks, c.deref_mut.ensures.len)) (kept.clear (ap is_some c.in-None.is));
+      entry_each = self.entry_each ∙ sym kept.width;
+    }
