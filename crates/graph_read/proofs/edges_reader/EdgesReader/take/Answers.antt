@@ -1,4 +1,5 @@
-use Rattle.std.proofs.Common.{◌≡◌, ◌∙◌, ◌-◌, ◌++◌, ℕ, List, Bool, if◌then◌else◌, nat_lt, drop, length, ap, sym, arith}
+use Rattle.std.proofs.Common.{◌≡◌, ◌∙◌, ◌-◌, ◌++◌, ℕ, List, Bool, if◌then◌else◌, nat_lt, drop, length, ap, sym, refl, arith}
+use Rattle.std.proofs.lemmas.Result.{IfOk-from_err}
 use Rattle.row_model.specs.Rows.{RowList}
 use Rattle.row_model.specs.declared.refusal.Read.{Read}
 use Rattle.row_model.specs.declared.refusal.Read.TheVariants as read
@@ -24,3 +25,21 @@ returns-clause-lists c rest =
     let too_long : Read RowList = read.Refused (record { code = LIMIT; line = 0 }) in
     ap (λ (long : Bool). if long then too_long else lines_then c.in_ok-lines.lines (lines_of behind)) room
     ∙ ap (λ (whole : Read RowList). if nat_lt self.room (length (text ++ rest)) then too_long else whole) lines
+
+pub returns-then-text-self-clause-lists : goal.returns-then-text-self-clause-lists
+returns-then-text-self-clause-lists c rest = refl
+
+pub returns-in_err-lines : goal.returns-in_err-lines
+returns-in_err-lines c = record { within = IfOk-from_err c.from_residual.result _ c.from_residual.ensures.0; lists = IfOk-from_err c.from_residual.result _ c.from_residual.ensures.0; whole = IfOk-from_err c.from_residual.result _ c.from_residual.ensures.0; heading = IfOk-from_err c.from_residual.result _ c.from_residual.ensures.0 }
+
+pub returns-then-text-self-clause-heading : goal.returns-then-text-self-clause-heading
+returns-then-text-self-clause-heading c = refl
+
+pub returns-clause-heading : goal.returns-clause-heading
+returns-clause-heading c = c.in_ok-lines.ensures.heading
+
+pub returns-in_default-clause-heading : goal.returns-in_default-clause-heading
+returns-in_default-clause-heading c = refl
+
+pub returns-in_default-clause-lists : goal.returns-in_default-clause-lists
+returns-in_default-clause-lists c rest = refl

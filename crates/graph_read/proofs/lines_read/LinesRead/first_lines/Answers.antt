@@ -1,5 +1,5 @@
-use Rattle.std.proofs.Common.{◌≡◌, ◌∙◌, ◌+◌, ◌++◌, ℕ, List, Result, drop, slice_range, false, ap, sym, arith}
-use Rattle.std.proofs.lemmas.Result.{IfOk-weaker}
+use Rattle.std.proofs.Common.{◌≡◌, ◌∙◌, ◌+◌, ◌++◌, ℕ, List, Result, drop, slice_range, false, ap, sym, refl, arith}
+use Rattle.std.proofs.lemmas.Result.{IfOk-weaker, IfOk-from_err}
 use Rattle.row_model.specs.declared.refusal.Read.TheVariants as read
 use Rattle.text_lines.specs.Lines.{NumberedLine, lines_of, filled_lines, is_blank}
 use Rattle.text_lines.proofs.LineLemmas.{no_lines}
@@ -66,3 +66,33 @@ pub returns-clause-lines : goal.returns-clause-lines
 returns-clause-lines c later =
     let none = no_lines c.args.text.now c.loop-at.at (omega (arith, c.loop-at.invariant.within, c.loop-at-test.false)) in
     ap (lists_headed c.args.heading) (ap (λ lines. filled_lines (c.loop-at.number + 1) (lines ++ later)) (sym none) ∙ c.loop-at.invariant.so_far later)
+
+pub shape_in-requires : goal.shape_in-requires
+shape_in-requires c = c.requires.limit
+
+pub new-requires-clause-left : goal.new-requires-clause-left
+new-requires-clause-left c = c.in-Ok.ensures.left
+
+pub returns-in_err-new-in-Ok : goal.returns-in_err-new-in-Ok
+returns-in_err-new-in-Ok c = record { lines = IfOk-from_err c.from_residual.result _ c.from_residual.ensures.0; few = IfOk-from_err c.from_residual.result _ c.from_residual.ensures.0; heading = IfOk-from_err c.from_residual.result _ c.from_residual.ensures.0 }
+
+pub new-requires-clause-right : goal.new-requires-clause-right
+new-requires-clause-right c = c.in-Ok.ensures.right
+
+pub returns-in-Err-clause-heading : goal.returns-in-Err-clause-heading
+returns-in-Err-clause-heading c = refl
+
+pub further_lines-requires-clause-limit : goal.further_lines-requires-clause-limit
+further_lines-requires-clause-limit c = c.requires.limit
+
+pub further_lines-requires-clause-shape : goal.further_lines-requires-clause-shape
+further_lines-requires-clause-shape c = rw c.in_ok-new-in-Ok.ensures.shape c.in-Ok.ensures.of
+
+pub returns-in_ok-new-in-Ok-clause-heading : goal.returns-in_ok-new-in-Ok-clause-heading
+returns-in_ok-new-in-Ok-clause-heading c = c.further_lines.ensures.heading
+
+pub line_from-span-requires : goal.line_from-span-requires
+line_from-span-requires c = c.loop-at-test.true
+
+pub returns-clause-heading : goal.returns-clause-heading
+returns-clause-heading c = refl
