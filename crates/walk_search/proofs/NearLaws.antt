@@ -119,3 +119,7 @@ module _ (m : RowList) (near : Neighbours) (further : ℕ) (near_is : AreNeighbo
   followed h =
       along_bound m.columns (sum_by length (take (near.first + further) m.rows)) (sum_by length (take further (drop near.first m.rows))) (marked_ones (drop near.first m.rows) marks) (most_weight m near) before after some
       (marked_within m.rows near.first further m.columns marks fits count columns) (most_ones m near further near_is) h
+
+-- the ones, where there is a column
+pub fewer : (columns ones : ℕ) → 1 ≤ columns → ones ≤ columns * ones
+fewer columns ones some = (let once : 1 * ones ≤ columns * ones = mul-le 1 ones columns ones some (omega arith) in omega (arith, once))

@@ -1,12 +1,13 @@
-use Rattle.std.proofs.Common.{◌≡◌, ◌∙◌, ◌+◌, ◌∷◌, ◌++◌, [], ℕ, List, Vec, Global, drop, length, replicate, slice_get, Some, refl, ap, subst, arith}
+use Rattle.std.proofs.Common.{◌≡◌, ◌∙◌, ◌+◌, ◌∷◌, ◌++◌, [], ℕ, List, Vec, Global, drop, length, replicate, slice_get, Some, refl, ap, subst, arith, take, sum_by}
 use Rattle.std.proofs.lemmas.List.{length-map, map-append, replicate_more}
 use Rattle.std.proofs.lemmas.Option.{slice_get_within}
 use Rattle.row_model.specs.Graph.{row_at}
-use Rattle.walk_search.specs.Holders.{without}
+use Rattle.walk_search.specs.Holders.{without, AreHolders}
 use Rattle.walk_search.proofs.HolderLaws.{lists_of, HoldersSoFar, holders_none, holders_begin, holders_end, holders_more, further_same, further_member, further_there, ones_part}
 use Rattle.pair_classes.proofs.Items.{item_end, none_of}
 use Rattle.pair_classes.proofs.RowOnes.{ones_more}
 use Rattle.walk_search.proofs.holders.rows_by_column.Goals as goal
+use Rattle.std.proofs.lemmas.Result.{IfOk-from_err}
 
 pub loop-preserved : goal.loop-preserved
 loop-preserved g c =
@@ -88,3 +89,26 @@ returns-in_err-add_holder-clause-ticks g c =
     let more = ones_more (drop c.args.first rows) c.loop-k.k held (further_there rows c.args.first c.loop-k.k (omega arith)) in
     let all = ones_part (drop c.args.first rows) (c.loop-k.k + 1) c.args.rows (omega arith) in
     omega (arith, within, ap length same, more, all, c.loop-k.invariant.counted, c.loop-column.invariant.counted, c.in-Some.ensures.ticks)
+
+pub loop-init : goal.loop-init
+loop-init g c = record { lists = ap lists_of c.new-holders.ensures.items; counted = omega arith }
+
+pub next_counted-requires : goal.next_counted-requires
+next_counted-requires g c = (omega arith, omega (arith, c.loop-k-test.true, c.requires))
+
+pub returns-in_err-push : goal.returns-in_err-push
+returns-in_err-push g c =
+    let none = c.from_residual.ensures.0 in
+    record { ticks = omega (arith, c.loop.invariant.counted, c.tick.ensures, c.loop-test.true, c.columns-end.ensures.columns); holders = IfOk-from_err c.from_residual.result _ none; turns = IfOk-from_err c.from_residual.result _ none }
+
+-- all columns and all rows were gone through
+pub returns : goal.returns
+returns g c =
+    let same : c.loop-k.k ≡ c.args.rows = omega (arith, c.loop-k-test.false, c.loop-k.auto.k-end) in
+    let ones = ap (λ n. sum_by length (take n (drop c.args.first c.args.m.now.rows))) same in
+    let all : c.loop.counter ≡ c.args.m.now.columns = omega (arith, c.loop.auto.counter-end, c.loop-test.false, c.columns-end.ensures.columns) in
+    record {
+      turns = omega (arith, c.loop.invariant.counted, c.loop-k.invariant.counted, ones, all);
+      ticks = omega (arith, c.loop.invariant.counted, c.loop-k.invariant.counted, ones, all);
+      holders = subst (λ n. AreHolders (without c.args.first c.args.m.now) n (lists_of c.loop-k.holders.items)) same c.loop-k.invariant.holders;
+    }

@@ -18,6 +18,7 @@ use Rattle.walk_search.proofs.TakenLaws.{taken_pair, expanding_none, expanding_r
 use Rattle.walk_search.proofs.search.expand.Given as given
 use Rattle.walk_search.proofs.search.expand.Goals as goal
 use Rattle.walk_search.proofs.search.expand.Goals.{After-index-node, After-deref-row-items}
+use Rattle.std.proofs.lemmas.Result.{IfOk-from_err}
 
 pub leave-requires-clause-gaps : goal.leave-requires-clause-gaps
 leave-requires-clause-gaps g c =
@@ -195,3 +196,28 @@ returns-in-Some-2-clause-found g c =
     let m = c.args.m.now in
     let shows = rw c.in-Some-2.is at c.in_ok-conflict-2.ensures.found in
     subst (λ n. ShowsConflict m.columns (take (c.args.near.now.first + n) m.rows) c.look.new.forest c.in-Some-2.conflict) c.loop-row.invariant.expanding.grows.rows shows
+
+pub leave-requires-clause-from : goal.leave-requires-clause-from
+leave-requires-clause-from g c = c.requires.from.1
+
+pub leave-requires-clause-indexed : goal.leave-requires-clause-indexed
+leave-requires-clause-indexed g c = c.requires.search.is_forest.indexed
+
+pub returns-in_err-conflict : goal.returns-in_err-conflict
+returns-in_err-conflict g c =
+    let none = c.from_residual.ensures.0 in
+    record { sizes = (refl, refl); ticks = λ node e. omega arith; found = IfOk-from_err c.from_residual.result _ none; costs = IfOk-from_err c.from_residual.result _ none; turns = IfOk-from_err c.from_residual.result _ none }
+
+pub returns-in-Some-clause-ticks : goal.returns-in-Some-clause-ticks
+returns-in-Some-clause-ticks g c =
+    let t = takes g (goal.at.returns-in-Some-clause-ticks g c).After-index-node in
+    λ node e. omega (arith, c.tick.ensures, subst (λ (n : Node). 1 ≤ weight c.args.m.now c.args.near.now n.pair.a) (same_Some c.index-node.result.now node (sym t.there ∙ e)) (c.requires.weighty c.index-node.result.now t.there).0)
+
+pub returns-in_err-conflict-2-clause-sizes : goal.returns-in_err-conflict-2-clause-sizes
+returns-in_err-conflict-2-clause-sizes g c = (c.look.ensures.sizes.0 ∙ c.loop-row.invariant.expanding.grows.rows, c.look.ensures.sizes.1 ∙ c.loop-row.invariant.expanding.grows.columns)
+
+pub returns-in-Some-2-clause-sizes : goal.returns-in-Some-2-clause-sizes
+returns-in-Some-2-clause-sizes g c = (c.look.ensures.sizes.0 ∙ c.loop-row.invariant.expanding.grows.rows, c.look.ensures.sizes.1 ∙ c.loop-row.invariant.expanding.grows.columns)
+
+pub returns-clause-sizes : goal.returns-clause-sizes
+returns-clause-sizes g c = (c.loop-row.invariant.expanding.grows.rows, c.loop-row.invariant.expanding.grows.columns)

@@ -1,11 +1,11 @@
-use Rattle.std.proofs.Common.{◌≡◌, ◌∙◌, ◌+◌, ◌*◌, ◌<◌, ◌≤◌, length, take, drop, sym, ap, subst, arith}
+use Rattle.std.proofs.Common.{◌≡◌, ◌∙◌, ◌+◌, ◌*◌, ◌<◌, ◌≤◌, length, take, drop, sym, ap, subst, arith, refl}
 use Rattle.walk_search.specs.MarkedOnes.{marked_ones}
 use Rattle.walk_search.specs.Neighbours.{AreNeighbours}
 use Rattle.walk_search.specs.Weights.{weights, most_weight, IsWeighty}
-use Rattle.walk_search.specs.Search.{pair_of_node}
+use Rattle.walk_search.specs.Search.{pair_of_node, ShowsConflict}
 use Rattle.pair_classes.proofs.Items.{none_of, item_at}
 use Rattle.pair_classes.proofs.NumberLaws.{indexed_room, indexed_few}
-use Rattle.walk_search.proofs.TakenLaws.{growing_more, growing_all}
+use Rattle.walk_search.proofs.TakenLaws.{growing_more, growing_all, growing_none}
 use Rattle.walk_search.proofs.ForestLaws.{grown_long}
 use Rattle.walk_search.proofs.WeightLaws.{node_weighty, weights_more, weights_same, weights_part, weights_most, weighty_grown}
 use Rattle.walk_search.proofs.search.grow.Given as given
@@ -88,3 +88,36 @@ returns-in-Some-clause-costs g c = omega (arith, c.loop-head.invariant.costs, c.
 
 pub returns-clause-costs : goal.returns-clause-costs
 returns-clause-costs g c = omega (arith, c.loop-head.invariant.costs, c.loop-head.invariant.same, c.loop-head.invariant.tree, c.loop-head-test.false)
+
+pub loop-head-init : goal.loop-head-init
+loop-head-init g c = record {
+  growing = growing_none c.args.m.now c.args.near.now c.args.marks.now c.args.forest.now c.requires.search c.requires.taken;
+  weighty = c.requires.weighty;
+  tree = c.requires.tree;
+  same = refl;
+  costs = omega arith;
+  ticks = omega arith;
+}
+
+pub expand-requires-clause-search : goal.expand-requires-clause-search
+expand-requires-clause-search g c = c.loop-head.invariant.growing.search
+
+pub expand-requires-clause-near : goal.expand-requires-clause-near
+expand-requires-clause-near g c = subst (λ n. AreNeighbours c.args.m.now n c.args.near.now) (sym c.loop-head.invariant.growing.grows.rows) c.requires.near
+
+pub expand-requires-clause-from : goal.expand-requires-clause-from
+expand-requires-clause-from g c = (c.loop-head.invariant.growing.within, omega (arith, c.loop-head-test.true))
+
+pub returns-in_err-conflict-clause-sizes : goal.returns-in_err-conflict-clause-sizes
+returns-in_err-conflict-clause-sizes g c = (c.expand.ensures.sizes.0 ∙ c.loop-head.invariant.growing.grows.rows, c.expand.ensures.sizes.1 ∙ c.loop-head.invariant.growing.grows.columns)
+
+pub returns-in-Some-clause-found : goal.returns-in-Some-clause-found
+returns-in-Some-clause-found g c =
+    let m = c.args.m.now in
+    subst (λ n. ShowsConflict m.columns (take (c.args.near.now.first + n) m.rows) c.expand.new.forest c.in-Some.conflict) c.loop-head.invariant.growing.grows.rows (rw c.in-Some.is at c.in_ok-conflict.ensures.found)
+
+pub returns-in-Some-clause-sizes : goal.returns-in-Some-clause-sizes
+returns-in-Some-clause-sizes g c = (c.expand.ensures.sizes.0 ∙ c.loop-head.invariant.growing.grows.rows, c.expand.ensures.sizes.1 ∙ c.loop-head.invariant.growing.grows.columns)
+
+pub returns-clause-sizes : goal.returns-clause-sizes
+returns-clause-sizes g c = (c.loop-head.invariant.growing.grows.rows, c.loop-head.invariant.growing.grows.columns)

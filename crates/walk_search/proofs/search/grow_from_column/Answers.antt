@@ -5,7 +5,7 @@ use Rattle.column_order.proofs.Counts.{order_length}
 use Rattle.row_model.specs.Graph.{pair, IsPair}
 use Rattle.walk_search.specs.declared.forest.Node.{Node}
 use Rattle.walk_search.specs.Neighbours.{AreNeighbours}
-use Rattle.walk_search.specs.Search.{root_node, ShowsConflict}
+use Rattle.walk_search.specs.Search.{root_node, ShowsConflict, AreReachedFrom}
 use Rattle.walk_search.specs.Weights.{weights, AreWeighty}
 use Rattle.pair_classes.proofs.Items.{none_of, item_last}
 use Rattle.walk_search.proofs.SettledLaws.{grown_from_none, grown_from_same, grown_from_idle, grown_from_reached, grown_from_tree, planted_search, planted_taken}
@@ -130,3 +130,45 @@ loop-b-preserved g c =
       ticks = omega (arith, c.loop-b.invariant.ticks, c.tick.ensures, c.in_ok-conflict.ensures.spent none, before_tree g (goal.at.loop-b-preserved g c).After-grow);
       costs = omega (arith, c.loop-b.invariant.costs, c.tick.ensures, c.in_ok-conflict.ensures.costs);
     }
+
+pub can_join-requires-clause-column : goal.can_join-requires-clause-column
+can_join-requires-clause-column g c =
+    let near = c.args.near.now in
+    (omega arith, omega (arith, c.loop-b-test.true, c.columns-b-end.ensures.columns, c.requires.near.holders.columns, length-map near.holders.items (λ (list : Vec ℕ Global). list.items)))
+
+pub plant-requires : goal.plant-requires
+plant-requires g c =
+    let p : IsPair c.args.m.now.columns (pair c.args.a (c.loop-b.b + 1)) = record { distinct = c.if-pair.false; a_from = c.requires.column.0; a_to = c.requires.column.1; b_from = omega arith; b_to = omega (arith, c.loop-b-test.true, c.columns-b-end.ensures.columns) } in
+    record {
+      indexed = c.loop-b.invariant.grown.search.is_forest.indexed;
+      fresh = omega (arith, c.get.ensures, c.if-get-gt0.false);
+      pair = subst (λ n. IsPair n (pair c.args.a (c.loop-b.b + 1))) (sym c.loop-b.invariant.grown.search.is_forest.columns) p;
+    }
+
+pub returns-in_err-plant-clause-sizes : goal.returns-in_err-plant-clause-sizes
+returns-in_err-plant-clause-sizes g c = (c.loop-b.invariant.grown.grows.rows, c.loop-b.invariant.grown.grows.columns)
+
+pub returns-in_err-conflict-clause-sizes : goal.returns-in_err-conflict-clause-sizes
+returns-in_err-conflict-clause-sizes g c = (c.grow.ensures.sizes.0 ∙ c.loop-b.invariant.grown.grows.rows, c.grow.ensures.sizes.1 ∙ c.loop-b.invariant.grown.grows.columns)
+
+pub returns-in-Some-clause-sizes : goal.returns-in-Some-clause-sizes
+returns-in-Some-clause-sizes g c = (c.grow.ensures.sizes.0 ∙ c.loop-b.invariant.grown.grows.rows, c.grow.ensures.sizes.1 ∙ c.loop-b.invariant.grown.grows.columns)
+
+-- each column was gone through
+pub returns-clause-found : goal.returns-clause-found
+returns-clause-found g c =
+    let x = c.loop-b.invariant.grown in
+    let all : c.loop-b.b ≡ c.args.m.now.columns = omega (arith, c.loop-b-test.false, c.loop-b.auto.b-end, c.columns-b-end.ensures.columns) in
+    (x.search, x.grows, x.taken, subst (λ n. AreReachedFrom c.args.m.now c.args.near.now c.loop-b.forest.nodes.items c.args.a n) all x.reached)
+
+pub returns-clause-sizes : goal.returns-clause-sizes
+returns-clause-sizes g c = (c.loop-b.invariant.grown.grows.rows, c.loop-b.invariant.grown.grows.columns)
+
+pub returns-clause-spent : goal.returns-clause-spent
+returns-clause-spent g c = λ e. omega (arith, c.loop-b.invariant.ticks, c.loop-b.auto.b-end, c.columns-b-end.ensures.columns)
+
+pub returns-clause-costs : goal.returns-clause-costs
+returns-clause-costs g c = omega (arith, c.loop-b.invariant.costs, c.loop-b-test.false, c.columns-b-end.ensures.range.0)
+
+pub returns-clause-turns : goal.returns-clause-turns
+returns-clause-turns g c = λ e. omega (arith, c.loop-b.invariant.costs, c.loop-b-test.false, c.columns-b-end.ensures.columns)

@@ -256,3 +256,41 @@ loop-column-init g c =
       within = omega arith;
       ticks = omega (arith, c.has_counted.ensures.ticks);
     }
+
+pub mark-requires : goal.mark-requires
+mark-requires g c =
+    let nodes = c.args.forest.now.nodes.items in
+    let there : slice_get nodes c.args.from ≡ Some c.index-node.result.now = slice_get_read nodes (length nodes) c.args.from c.index-node.result.now refl c.requires.from.1 c.index-node.ensures in
+    let here = (c.requires.search.is_forest.indexed.pairs c.args.from c.index-node.result.now there).0 in
+    record { row = c.requires.row; column = (here.b_from, omega (arith, here.b_to, c.requires.search.is_forest.columns, c.requires.search.columns)) }
+
+pub has_counted-requires : goal.has_counted-requires
+has_counted-requires g c = (omega arith, omega (arith, c.requires.search.few, c.requires.row.1))
+
+pub returns-then-mark-clause-sizes : goal.returns-then-mark-clause-sizes
+returns-then-mark-clause-sizes g c = (c.mark.ensures.after.rows, c.mark.ensures.after.columns)
+
+pub next_counted-requires : goal.next_counted-requires
+next_counted-requires g c = (omega arith, omega (arith, c.requires.search.few, c.requires.row.1))
+
+pub returns-then-has_counted-clause-sizes : goal.returns-then-has_counted-clause-sizes
+returns-then-has_counted-clause-sizes g c = (c.mark.ensures.after.rows, c.mark.ensures.after.columns)
+
+pub returns-in_err-conflict-clause-sizes : goal.returns-in_err-conflict-clause-sizes
+returns-in_err-conflict-clause-sizes g c = (c.mark.ensures.after.rows, c.mark.ensures.after.columns)
+
+pub returns-in_err-conflict-clause-costs : goal.returns-in_err-conflict-clause-costs
+returns-in_err-conflict-clause-costs g c = omega (arith, c.loop-column.invariant.ticks, c.in-Some.ensures.ticks)
+
+pub returns-in-Some-2-clause-sizes : goal.returns-in-Some-2-clause-sizes
+returns-in-Some-2-clause-sizes g c = (c.mark.ensures.after.rows, c.mark.ensures.after.columns)
+
+pub returns-in-Some-2-clause-costs : goal.returns-in-Some-2-clause-costs
+returns-in-Some-2-clause-costs g c = omega (arith, c.loop-column.invariant.ticks, c.in-Some.ensures.ticks)
+
+pub returns-clause-sizes : goal.returns-clause-sizes
+returns-clause-sizes g c = (c.mark.ensures.after.rows, c.mark.ensures.after.columns)
+
+pub returns-clause-costs : goal.returns-clause-costs
+returns-clause-costs g c =
+    omega (arith, c.loop-column.invariant.ticks, rw (none_of c.next_counted.result c.in_default.not-Some) at c.next_counted.ensures.ticks)

@@ -9,11 +9,34 @@ use Rattle.walk_search.specs.Weights.{weight, weights, most_weight, TellsJoining
 use Rattle.walk_search.specs.Neighbours.{AreNeighbours}
 use Rattle.pair_classes.proofs.Items.{none_of}
 use Rattle.walk_search.proofs.EndLaws.{IsSearched, searched_none, searched_idle, searched_again, searched_more, searched_all}
-use Rattle.walk_search.proofs.NearLaws.{bounded, squared}
+use Rattle.walk_search.proofs.NearLaws.{bounded, squared, fewer}
 use Rattle.walk_search.proofs.WeightLaws.{tried_more, tried_part, all_most}
 use Rattle.walk_search.proofs.search.search.Given as given
 use Rattle.walk_search.proofs.search.search.Goals as goal
 use Rattle.walk_search.proofs.search.search.Goals.{After-grow_from_column}
+use Rattle.std.proofs.lemmas.Result.{IfOk-from_err}
+
+-- the number of a turn, as the invariant has it
+again : (turn : ℕ) → turn ≡ 0 → turn - 1 ≡ turn + 1 - 1
+again turn s = omega (arith, s)
+
+from_one : (turn : ℕ) → (turn ≡ 0 → ⊥) → 1 ≤ turn
+from_one turn n = omega (arith, n)
+
+onward : (turn : ℕ) → 1 ≤ turn → turn - 1 + 1 ≡ turn + 1 - 1
+onward turn one = omega arith
+
+back : (turn : ℕ) → 1 ≤ turn → turn - 1 + 1 ≡ turn
+back turn one = omega arith
+
+less : (turn : ℕ) → turn - 1 ≤ turn + 1 - 1
+less turn = omega arith
+
+no_turn : (turn : ℕ) (P : Type 0) → turn + 1 ≡ 0 → P
+no_turn turn P e = absurd (omega (arith, e))
+
+one_more : (turn columns : ℕ) → (turn + 1) * columns ≡ turn * columns + columns
+one_more turn columns = grind arith
 
 pub loop-turn-init : goal.loop-turn-init
 loop-turn-init g c =
@@ -63,18 +86,19 @@ loop-turn-preserved-then-not-can_join g c =
     let x = c.loop-turn.invariant.searched in
     let tells = c.can_join.ensures m c.args.further c.requires.near in
     let next : IsSearched m near c.args.further c.loop-turn.marks c.loop-turn.forest (turn + 1 - 1) = elim (cases_eq turn 0) [
-      | inl s ↦ subst (IsSearched m near c.args.further c.loop-turn.marks c.loop-turn.forest) (omega (arith, s)) x
+      | inl s ↦ subst (IsSearched m near c.args.further c.loop-turn.marks c.loop-turn.forest) (again turn s) x
       | inr n ↦
-          let same : c.column_in_turn-a.result ≡ turn - 1 + 1 = omega (arith, n, c.column_in_turn-a.ensures.later (omega (arith, n))) in
-          subst (IsSearched m near c.args.further c.loop-turn.marks c.loop-turn.forest) (omega (arith, n))
+          let one = from_one turn n in
+          let same : c.column_in_turn-a.result ≡ turn - 1 + 1 = c.column_in_turn-a.ensures.later one ∙ sym (back turn one) in
+          subst (IsSearched m near c.args.further c.loop-turn.marks c.loop-turn.forest) (onward turn one)
           (searched_idle m near c.args.further c.loop-turn.marks c.loop-turn.forest (turn - 1) c.can_join.result x (subst (λ a. TellsJoining m near a c.can_join.result) same tells) c.if-not-can_join.true)
     ] in
     record {
       searched = next;
-      first = λ e. absurd (omega (arith, e));
+      first = λ e. no_turn turn _ e;
       turns = omega (arith, c.loop-turn.invariant.turns, c.tick.ensures);
-      ticks = omega (arith, c.loop-turn.invariant.ticks, c.tick.ensures, tried_part (weight m near) m.columns (turn - 1) (turn + 1 - 1) (omega arith));
-      square = (let more : (turn + 1) * m.columns ≡ turn * m.columns + m.columns = grind arith in omega (arith, c.loop-turn.invariant.square, c.tick.ensures, more));
+      ticks = omega (arith, c.loop-turn.invariant.ticks, c.tick.ensures, tried_part (weight m near) m.columns (turn - 1) (turn + 1 - 1) (less turn));
+      square = omega (arith, c.loop-turn.invariant.square, c.tick.ensures, one_more turn m.columns);
     }
 
 pub grow_from_column-requires-clause-near : goal.grow_from_column-requires-clause-near
@@ -98,9 +122,9 @@ module _ (g : given.Over) (c : After-grow_from_column g) where
       elim (cases_eq turn 0) [
         | inl s ↦ omega (arith, c.loop-turn.invariant.first s)
         | inr n ↦
-            let one : 1 ≤ turn = omega (arith, n) in
+            let one = from_one turn n in
             let same = c.column_in_turn-a.ensures.later one in
-            let up : turn + 1 - 1 ≡ turn = omega arith in
+            let up = sym (onward turn one) ∙ back turn one in
             let more = tried_more w c.args.m.now.columns turn one (subst (λ a. 1 ≤ w a) same some) in
             rw up (omega (arith, c.loop-turn.invariant.ticks, more))
       ]
@@ -149,18 +173,18 @@ loop-turn-preserved g c =
     let grown = rw none at c.in_ok-conflict.ensures.found in
     let x = c.loop-turn.invariant.searched in
     let next : IsSearched m near c.args.further marks forest (turn + 1 - 1) = elim (cases_eq turn 0) [
-      | inl s ↦ subst (IsSearched m near c.args.further marks forest) (omega arith) (searched_again m near c.args.further c.loop-turn.marks marks c.loop-turn.forest forest (turn - 1) c.column_in_turn-a.result x grown)
+      | inl s ↦ subst (IsSearched m near c.args.further marks forest) (again turn s) (searched_again m near c.args.further c.loop-turn.marks marks c.loop-turn.forest forest (turn - 1) c.column_in_turn-a.result x grown)
       | inr n ↦
-          let one : 1 ≤ turn = omega arith in
-          subst (IsSearched m near c.args.further marks forest) (omega arith) (searched_more m near c.args.further c.loop-turn.marks marks c.loop-turn.forest forest (turn - 1) c.column_in_turn-a.result x grown (omega (arith, c.column_in_turn-a.ensures.later one)))
+          let one = from_one turn n in
+          subst (IsSearched m near c.args.further marks forest) (onward turn one) (searched_more m near c.args.further c.loop-turn.marks marks c.loop-turn.forest forest (turn - 1) c.column_in_turn-a.result x grown (c.column_in_turn-a.ensures.later one ∙ sym (back turn one)))
     ] in
     let spent = c.in_ok-conflict.ensures.spent none in
     record {
       searched = next;
-      first = λ e. absurd (omega (arith, e));
+      first = λ e. no_turn turn _ e;
       turns = omega (arith, c.loop-turn.invariant.turns, c.tick.ensures, c.in_ok-conflict.ensures.costs);
       ticks = omega (arith, tried g (goal.at.loop-turn-preserved g c).After-grow_from_column, c.tick.ensures, spent);
-      square = (let more : (turn + 1) * m.columns ≡ turn * m.columns + m.columns = grind arith in omega (arith, c.loop-turn.invariant.square, c.tick.ensures, more, spent));
+      square = omega (arith, c.loop-turn.invariant.square, c.tick.ensures, one_more turn m.columns, spent);
     }
 
 pub returns-in-Some-clause-found : goal.returns-in-Some-clause-found
@@ -213,7 +237,7 @@ returns-clause-square g c =
     let x = c.loop-turn.invariant.searched in
     let range = c.columns-columns.ensures in
     let few : c.loop-turn.turn * c.args.m.now.columns ≤ (c.args.m.now.columns + 1) * c.args.m.now.columns = mul-le c.loop-turn.turn c.args.m.now.columns (c.args.m.now.columns + 1) c.args.m.now.columns (omega (arith, c.loop-turn.auto.turn-end, range.columns)) (omega arith) in
-    let whole : (c.args.m.now.columns + 1) * c.args.m.now.columns ≡ c.args.m.now.columns * c.args.m.now.columns + c.args.m.now.columns = grind arith in
+    let whole = one_more c.args.m.now.columns c.args.m.now.columns in
     squared c.args.m.now c.args.near.now c.args.further c.requires.near c.requires.rows (omega (arith, range.range.0, range.columns)) c.loop-turn.marks x.count x.search.columns c.args.steps.now c.loop-turn.steps
     (omega (arith, c.loop-turn.invariant.square, all_most c.args.m.now c.args.near.now (take (c.args.near.now.first + c.loop-turn.marks.rows) c.args.m.now.rows) c.loop-turn.forest x.search.is_forest, few, whole, c.loop-turn.auto.turn-end, range.columns))
 
@@ -228,3 +252,22 @@ closed_walk-requires-clause-tree g c = (rw c.in-Some.is at c.in_ok-conflict.ensu
 
 pub closed_walk-requires-clause-ends : goal.closed_walk-requires-clause-ends
 closed_walk-requires-clause-ends g c = (rw c.in-Some.is at c.in_ok-conflict.ensures.found).is_conflict.ends
+
+pub returns-in_err-marks : goal.returns-in_err-marks
+returns-in_err-marks g c =
+    let none = c.from_residual.ensures.0 in
+    let once = fewer c.args.m.now.columns (sum_by length (take (c.args.near.now.first + c.args.further) c.args.m.now.rows)) (omega (arith, c.columns-columns.ensures.range.0, c.columns-columns.ensures.columns)) in
+    record { ticks = omega (arith, once); square = omega (arith, once); found = IfOk-from_err c.from_residual.result _ none; costs = IfOk-from_err c.from_residual.result _ none; turns = IfOk-from_err c.from_residual.result _ none }
+
+pub grow_from_column-requires-clause-column : goal.grow_from_column-requires-clause-column
+grow_from_column-requires-clause-column g c =
+    let range = c.columns-columns.ensures in
+    elim (cases_eq c.loop-turn.turn 0) [
+      | inl s ↦ (let same = c.column_in_turn-a.ensures.first s in (omega (arith, same, range.range.0), omega (arith, same, range.columns)))
+      | inr n ↦ (let same = c.column_in_turn-a.ensures.later (omega (arith, n)) in (omega (arith, same, n), omega (arith, same, c.loop-turn-test.true, range.columns)))
+    ]
+
+pub returns-in_err-forest : goal.returns-in_err-forest
+returns-in_err-forest g c =
+    let once = fewer c.args.m.now.columns (sum_by length (take (c.args.near.now.first + c.args.further) c.args.m.now.rows)) (omega (arith, c.columns-columns.ensures.range.0, c.columns-columns.ensures.columns)) in
+    record { found = search rules; ticks = omega (arith, once); square = omega (arith, once); costs = search rules; turns = search rules }

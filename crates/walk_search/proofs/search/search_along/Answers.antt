@@ -1,4 +1,4 @@
-use Rattle.std.proofs.Common.{◌≡◌, ◌∙◌, ◌+◌, ◌*◌, ◌≤◌, sum_by, [], length, take, drop, IsTrue, sym, subst, arith}
+use Rattle.std.proofs.Common.{◌≡◌, ◌∙◌, ◌+◌, ◌*◌, ◌≤◌, sum_by, [], length, take, drop, IsTrue, sym, subst, arith, ℕ}
 use Rattle.std.proofs.lemmas.List.{nil_from_length}
 use Rattle.column_order.specs.Orders.{has}
 use Rattle.row_model.specs.Graph.{row_at, HasOddWalk}
@@ -7,7 +7,7 @@ use Rattle.walk_search.specs.Neighbours.{AreNeighbours}
 use Rattle.pair_classes.proofs.Items.{none_of, item_end, has_item}
 use Rattle.walk_search.proofs.HolderLaws.{further_same}
 use Rattle.walk_search.proofs.WeightLaws.{row_weighty}
-use Rattle.walk_search.proofs.NearLaws.{followed}
+use Rattle.walk_search.proofs.NearLaws.{followed, fewer}
 use Rattle.walk_search.proofs.EndLaws.{IsSearched, searched_none, along_none, along_all}
 use Rattle.walk_search.proofs.search.search_along.Given as given
 use Rattle.walk_search.proofs.search.search_along.Goals as goal
@@ -93,3 +93,23 @@ closed_walk-requires-clause-tree g c = (rw c.in-Some-2.is at c.in_ok-grow_from_c
 
 pub closed_walk-requires-clause-ends : goal.closed_walk-requires-clause-ends
 closed_walk-requires-clause-ends g c = (rw c.in-Some-2.is at c.in_ok-grow_from_column.ensures.found).is_conflict.ends
+
+pub returns-in_err-marks-clause-ticks : goal.returns-in_err-marks-clause-ticks
+returns-in_err-marks-clause-ticks g c = omega (arith, fewer c.args.m.now.columns (sum_by length (take (c.args.near.now.first + 1) c.args.m.now.rows)) (omega (arith, c.columns-columns.ensures.range.0, c.columns-columns.ensures.columns)))
+
+pub next_counted-requires : goal.next_counted-requires
+next_counted-requires g c = (omega arith, c.requires.rows)
+
+pub returns-in_err-forest-clause-ticks : goal.returns-in_err-forest-clause-ticks
+returns-in_err-forest-clause-ticks g c = omega (arith, fewer c.args.m.now.columns (sum_by length (take (c.args.near.now.first + 1) c.args.m.now.rows)) (omega (arith, c.columns-columns.ensures.range.0, c.columns-columns.ensures.columns)))
+
+pub grow_from_column-requires-clause-column : goal.grow_from_column-requires-clause-column
+grow_from_column-requires-clause-column g c = c.in-Some.ensures.range
+
+pub returns-in_default-clause-ticks : goal.returns-in_default-clause-ticks
+returns-in_default-clause-ticks g c =
+    let calm = rw (none_of c.next_counted.result c.in_default.not-Some) at c.next_counted.ensures.ticks in
+    omega (arith, calm, fewer c.args.m.now.columns (sum_by length (take (c.args.near.now.first + 1) c.args.m.now.rows)) (omega (arith, c.columns-columns.ensures.range.0, c.columns-columns.ensures.columns)))
+
+pub returns-clause-turns : goal.returns-clause-turns
+returns-clause-turns g c = omega (arith, c.in-Some.ensures.ticks, c.in_ok-grow_from_column.ensures.costs)
