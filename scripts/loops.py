@@ -12,7 +12,7 @@ UNTICKED = {
     "incompat_graph": {
         "walk_around": 3, "add_forth": 1, "add_back": 1, "columns_near": 2, "openers": 2, "is_odd_walk": 1, "odd_links": 4, "closed_at_once": 1,
         "is_known": 1, "odd_circle": 4, "circle_by": 4, "first_left": 2, "place_among": 1, "spread": 3, "path_up": 1, "add_lines": 1, "settle": 4,
-        "lines_of": 1, "part_of": 2, "without_repeats": 4, "add_spread": 1, "checked_cycle": 1, "lines_in": 1, "any_cycle": 1, "quick_cycle": 1,
+        "lines_of": 1, "part_of": 2, "without_repeats": 4, "add_spread": 1, "is_folded_walk": 1, "lines_in": 1, "any_cycle": 1, "quick_cycle": 1,
     },
 }
 # The same of the crates that reduce a row in place, where no call of the arena is taken for a step. They set tables up and give a tree out;

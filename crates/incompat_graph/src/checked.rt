@@ -4,7 +4,7 @@ ghost use Rattle.row_model.specs.declared.graph.Pair.{Pair};
 ghost use Rattle.row_model.specs.declared.graph.Why.TheVariants.{Row};
 ghost use Rattle.row_model.specs.Graph.{JoinedBy};
 ghost use Rattle.row_model.specs.Cycles.{first_pair, IsOddWalk, IsOddCycle};
-ghost use Rattle.odd_cycle.specs.Short.{flip_of, flips, IsShort};
+ghost use Rattle.odd_cycle.specs.Short.{flip_of, flips, IsFolded, IsShort};
 
 use odd_cycle::{Cycle, is_folded, short_cycle_law};
 use row_model::{CountedRows, Line, NoMemory, Pair, Why};
@@ -28,16 +28,39 @@ pub fn checked_cycle<L: Ledger>(
     ensures less { left.new ≤ left.old }
     ensures turns { IfOk result (λ found. IfSome found (λ cycle. steps.old + 3 * length cycle ≤ steps.new + 3)) }
 {
+    short_cycle_law();
+    if is_folded_walk(alloc, m, rows, &lines, left, steps)? {
+        Ok(Some(Cycle::from_lines(lines)))
+    } else {
+        Ok(None)
+    }
+}
+
+// Whether the lines are such a cycle.
+fn is_folded_walk<L: Ledger>(
+    alloc: Global,
+    m: &CountedRows,
+    rows: u32,
+    lines: &[Line],
+    left: &mut u64,
+    steps: &mut Steps<L>,
+) -> Result<bool, NoMemory>
+    requires { rows ≤ length m.now.rows }
+    ensures walk { IfOk result (λ yes. IsTrue yes → IsOddWalk m.now.columns (take rows m.now.rows) lines.now) }
+    ensures folded { IfOk result (λ yes. IsTrue yes → IsFolded lines.now) }
+    ensures ticks { steps.new + left.new ≤ steps.old + left.old }
+    ensures less { left.new ≤ left.old }
+    ensures turns { IfOk result (λ yes. IsTrue yes → steps.old + 3 * length lines.now ≤ steps.new + 3 * flips lines.now) }
+{
     let count = lines.len() as u64;
     if count < 3 || count > *left / 3 {
-        return Ok(None);
+        return Ok(false);
     }
     *left -= 3 * count;
-    short_cycle_law();
-    if !is_odd_walk(m, rows, &lines, steps) || !is_folded(alloc, &lines)? {
-        return Ok(None);
+    if !is_odd_walk(m, rows, lines, steps) {
+        return Ok(false);
     }
-    Ok(Some(Cycle::from_lines(lines)))
+    is_folded(alloc, lines)
 }
 
 // Whether the lines are a closed walk of odd length in the graph of the first rows.

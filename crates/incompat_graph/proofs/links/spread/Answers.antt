@@ -1,4 +1,5 @@
-use Rattle.std.proofs.Common.{◌≤◌, length, subst, sym}
+use Rattle.std.proofs.Common.{◌<◌, ◌≤◌, List, IfSome, length, subst, sym}
+use Rattle.incompat_graph.specs.declared.links.Reached.{Reached}
 use Rattle.incompat_graph.proofs.links.spread.Goals as goal
 use Rattle.incompat_graph.proofs.links.spread.Goals.{then-eq+in_ok-odd+in_default-2, else-eq}
 
@@ -28,3 +29,10 @@ returns-in-Some-2-clause-few c = c.reach.ensures.few
 
 pub returns-in_err-odd-clause-few : goal.returns-in_err-odd-clause-few
 returns-in_err-odd-clause-few c = c.reach.ensures.few
+
+pub returns-in-Some-2-clause-within : goal.returns-in-Some-2-clause-within
+returns-in-Some-2-clause-within c = rw c.in-Some-2.is at c.in_ok-odd.ensures.within
+
+pub reach-requires-clause-place : goal.reach-requires-clause-place
+reach-requires-clause-place c =
+    subst (λ (rs : List Reached). IfSome c.place_among-place.result (λ place. place < length rs)) c.deref-then-eq.ensures.value c.place_among-place.ensures

@@ -1,10 +1,11 @@
-use Rattle.std.proofs.Common.{◌≡◌, ◌+◌, ◌*◌, ◌≤◌, take, length, sum_by, ℕ, List, sym, subst, arith}
+use Rattle.std.proofs.Common.{◌≡◌, ◌+◌, ◌*◌, ◌≤◌, take, length, sum_by, ℕ, List, sym, subst, arith, Result, Ok, Err, OnOk}
 use Rattle.std.proofs.lemmas.List.{take_all}
 use Rattle.row_model.specs.declared.graph.Line.{Line}
 use Rattle.row_model.specs.Cycles.{IsOddWalk}
 use Rattle.incompat_graph.proofs.part.lines_in.Given as given
 use Rattle.incompat_graph.proofs.part.lines_in.Goals as goal
 use Rattle.incompat_graph.proofs.part.lines_in.Goals.{After-walk_among}
+use Rattle.std.proofs.lemmas.Result.{IfOk-from_err}
 
 -- the search goes over all rows of the part
 all : (g : given.Over) (c : After-walk_among g) → take c.rows.result c.args.part.now.rows ≡ c.args.part.now.rows
@@ -49,3 +50,22 @@ returns-in-None-clause-square g c = square g (goal.at.returns-in-None-clause-squ
 
 pub returns-in-None-clause-turns : goal.returns-in-None-clause-turns
 returns-in-None-clause-turns g c = subst (λ (rows : List (List ℕ)). c.args.steps.now + c.args.part.now.columns + sum_by length rows ≤ c.walk_among.new.steps) (all g (goal.at.returns-in-None-clause-turns g c).After-walk_among) c.in_ok-walk.ensures.reads
+
+pub walk_among-requires : goal.walk_among-requires
+walk_among-requires g c = omega (arith, c.rows.ensures)
+
+pub short_cycle-requires-clause-few : goal.short_cycle-requires-clause-few
+short_cycle-requires-clause-few g c = c.columns.ensures.range.1
+
+-- what holds anyway
+always : {T E : Type 0} (r : Result T E) (P : Type 0) → P → OnOk r P
+always (Ok x) P p = p
+always (Err e) P p = tt
+
+pub returns-in_ok-cycle-in-Some-clause-turns : goal.returns-in_ok-cycle-in-Some-clause-turns
+returns-in_ok-cycle-in-Some-clause-turns g c =
+    let paid = subst (λ (rows : List (List ℕ)). c.args.steps.now + c.args.part.now.columns + sum_by length rows ≤ c.walk_among.new.steps) (all g (goal.at.returns-in_ok-cycle-in-Some-clause-turns g c).After-walk_among) c.in_ok-walk.ensures.reads in
+    always c.lines_of.result _ paid
+
+pub returns-in_err-walk-clause-turns : goal.returns-in_err-walk-clause-turns
+returns-in_err-walk-clause-turns g c = IfOk-from_err c.from_residual.result _ c.from_residual.ensures.0
