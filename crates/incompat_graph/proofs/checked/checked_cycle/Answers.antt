@@ -22,3 +22,10 @@ pub returns-in_err-is_folded_walk : goal.returns-in_err-is_folded_walk
 returns-in_err-is_folded_walk g c =
     let none = c.from_residual.ensures.0 in
     record { less = c.is_folded_walk.ensures.less; ticks = c.is_folded_walk.ensures.ticks; cycle = IfOk-from_err c.from_residual.result _ none; short = IfOk-from_err c.from_residual.result _ none; turns = IfOk-from_err c.from_residual.result _ none }
+
+pub from_lines-requires : goal.from_lines-requires
+from_lines-requires g c =
+    let rows = take c.args.rows c.args.m.now.rows in
+    let folded = subst (λ (ls : List Line). IsFolded ls) c.deref.ensures.value (c.in_ok-is_folded_walk.ensures.folded c.if-branch.true) in
+    let walk = subst (λ (ls : List Line). IsOddWalk c.args.m.now.columns rows ls) c.deref.ensures.value (c.in_ok-is_folded_walk.ensures.walk c.if-branch.true) in
+    (c.short_cycle_law.ensures c.args.m.now.columns rows c.args.lines.items walk folded).0.simple
