@@ -423,6 +423,8 @@ def hostile():
         yield f"{kind} of {what}", ["solve", kind], content, (0, None, b""), BASE_BYTES
     for kind, what, content, (code, line) in crowded_files():
         yield f"{kind} of {what}", ["solve", kind], content, (3, b"", b"pq: refused 1 code %d line %d\n" % (code, line)), CROWDED_BYTES
+    # A search among all pairs of columns would take 28 bytes for each.
+    yield "rows of a ring", ["solve", "rows"], ring(), (1, None, b""), BASE_BYTES
     yield "clones of a member of nested arrays", ["solve", "clones"], nested_arrays(), (0, None, b""), BASE_BYTES
     for what, content in tree_files():
         yield f"a tree of {what}", ["meet", str(COLUMNS), "-"], content, (3, b"", b"pq: refused 2 code 12 line 0\n"), BASE_BYTES
