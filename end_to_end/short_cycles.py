@@ -14,7 +14,7 @@ GROUPS = 20
 CYCLES = 50
 CHAINS = 10
 CHAIN_COLUMNS = 200
-# Three lines are enough. A cycle that leads through the whole chain has nearly as many as there are columns.
+# Three lines are enough. A cycle that leads through the whole chain may have as many as there are columns, and more.
 MOST_CHAIN_LINES = 25
 
 

@@ -36,7 +36,7 @@ pub fn checked_cycle<L: Ledger>(
     }
 }
 
-// Whether the lines are such a cycle.
+// Whether the lines are found to be such a cycle. The answer is no as well where too few steps are left to look.
 fn is_folded_walk<L: Ledger>(
     alloc: Global,
     m: &CountedRows,

@@ -239,8 +239,8 @@ fn spread(
     Ok(None)
 }
 
-// Adds a pivot that stands at no place among those that are reached. The answer is the link by which one that stands
-// there is reached, if an odd circle closes by it.
+// Adds a pivot that stands at no place among those that are reached, unless these are the most already. The answer is
+// the link by which one that stands there is reached, if an odd circle closes by it. No clause says either.
 fn reach(
     reached: &mut Vec<Reached>,
     next: Reached,

@@ -45,7 +45,7 @@ pub fn shorter_cycle<L: Ledger>(
     Ok(shorter_of(cycle, found))
 }
 
-// The cycle that was found, if there is one with fewer lines than this one, and else this one.
+// This cycle or the one that was found: it has no more lines than this one.
 fn shorter_of(cycle: Cycle, found: Option<Cycle>) -> Cycle
     ensures which { (result ≡ cycle) ⊎ (found ≡ Some result) }
     ensures length { length result ≤ length cycle }

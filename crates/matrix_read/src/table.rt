@@ -182,7 +182,7 @@ fn has_twice(alloc: Global, header: &ByteRecord) -> Result<bool, NoMemory>
     stands_twice(&mut names, header)
 }
 
-// The same. The names are put into `names`, which are none before, up to the first that stands there already.
+// The same, over a set that holds no name before.
 fn stands_twice<'a>(
     names: &mut IndexSet<&'a [u8]>,
     header: &'a ByteRecord,
