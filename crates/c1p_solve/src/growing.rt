@@ -1,5 +1,5 @@
 // Rows that are taken as they come, and not kept.
-ghost use Rattle.std.specs.Prelude.{◌≡◌, ◌≢◌, ◌+◌, ◌*◌, ◌≤◌, ℕ, List, [], ◌++◌, length, take, sum_by, None, IfOk};
+ghost use Rattle.std.specs.Prelude.{◌≡◌, ◌+◌, ◌*◌, ◌≤◌, ℕ, List, [], ◌++◌, length, take, sum_by, IfOk};
 ghost use Rattle.column_order.specs.Orders.{HasValidOrder};
 ghost use Rattle.c1p_solve.specs.Answers.{HasAllOrders, IsAnswer, IsInTurn};
 ghost use Rattle.c1p_solve.specs.Growing.{HasRefused, HasTaken, TakesRows};
@@ -7,7 +7,6 @@ ghost use Rattle.c1p_solve.specs.Totals.{IsNoTotal, answer_steps, reduction_step
 
 use crate::Solved;
 use crate::chosen::Chosen;
-use crate::session::Taken;
 use crate::solver::conflict;
 use incompat_graph::Cycle;
 use pq_tree::PqTree;
@@ -32,27 +31,23 @@ pub fn begin(alloc: Global, columns: u32) -> Result<Chosen, NoMemory>
 /// Takes the one row of `m` after the rows that were taken, or refuses it where there is no valid order with it. The
 /// rows that were taken are needed no more.
 ///
-/// A refusal leaves the reducer as it is, and comes without a cycle. All rows that were taken, together with one that is
-/// refused, take at most 1024 steps for each column, row and one.
-pub fn take_next<L: Ledger>(reducer: &mut Chosen, m: &Matrix, steps: &mut Steps<L>) -> Taken
+/// A refusal leaves the reducer as it is. All rows that were taken, together with one that is refused, take at most 1024
+/// steps for each column, row and one.
+pub fn take_next<L: Ledger>(reducer: &mut Chosen, m: &Matrix, steps: &mut Steps<L>) -> Step
     requires one { length m.now.rows ≡ 1 }
     requires taken { (rows : List (List ℕ)) × (s : ℕ) × HasTaken m.now.columns rows reducer.old s steps.old }
-    ensures taken { result ≡ Taken.Ok → (rows : List (List ℕ)) (s : ℕ) →
+    ensures taken { result ≡ Step.Taken → (rows : List (List ℕ)) (s : ℕ) →
         HasTaken m.now.columns rows reducer.old s steps.old →
         HasTaken m.now.columns (rows ++ m.now.rows) reducer.new s steps.new }
-    ensures refused { result ≢ Taken.Ok → (rows : List (List ℕ)) (s : ℕ) →
+    ensures refused { result ≡ Step.Refused → (rows : List (List ℕ)) (s : ℕ) →
         HasTaken m.now.columns rows reducer.old s steps.old →
         HasValidOrder m.now.columns (rows ++ m.now.rows) → ⊥ }
-    ensures bare { result ≢ Taken.Ok → result ≡ Taken.No None }
-    ensures unchanged { result ≢ Taken.Ok → reducer.new ≡ reducer.old }
+    ensures unchanged { result ≡ Step.Refused → reducer.new ≡ reducer.old }
     ensures most { (rows : List (List ℕ)) (s : ℕ) →
         HasTaken m.now.columns rows reducer.old s steps.old →
         steps.new ≤ s + reduction_steps m.now.columns (rows ++ m.now.rows) }
 {
-    match reducer.reduce_after(m, 1, steps) {
-        Step::Taken => Taken::Ok,
-        Step::Refused => Taken::No(None),
-    }
+    reducer.reduce_after(m, 1, steps)
 }
 
 /// Takes the rows of `m` in turn after the rows that were taken, up to the first with which there is no valid order. That

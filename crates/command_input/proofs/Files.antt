@@ -4,7 +4,7 @@ use Rattle.std.proofs.lemmas.Bool.{cases_eq, ne_eqb, lt-ltb, le-ltb, cases_lt}
 use Rattle.std.proofs.lemmas.List.{take-append-drop, drop_all, take_all, get_or-append-add, get_or_append_left}
 use Rattle.std.proofs.Math.Seq.{drop-cons, take-append_seam, get_or-append_seam}
 use Rattle.row_model.specs.declared.refusal.Read.TheVariants as read
-use Rattle.row_model.specs.declared.code.TheConstants.{LIMIT}
+use Rattle.row_model.specs.declared.code.TheConstants.{LIMIT, TREE}
 use Rattle.row_model.specs.declared.TheConstants.{MAX_COLUMNS, MAX_FILE_BYTES}
 use Rattle.text_lines.specs.Lines.{without_mark}
 use Rattle.pq_tree.specs.Outline.{Outline}
@@ -18,7 +18,6 @@ use Rattle.pq_tree.proofs.Found.{IsFound, tree_of_found}
 use Rattle.pq_tree.proofs.Again.{tree_of_proper}
 use Rattle.command_input.proofs.TreeReading.{reads_same}
 use Rattle.command_input.specs.TreeFiles.{end_length, without_end, read_tree, tree_file, IsLineEnd, WritesTree, TreeFileLaw, TreeRefusalLaw}
-use Rattle.command_input.specs.declared.TheConstants.{TREE_CODE}
 
 -- a line feed and a carriage return stop the reading of a tree
 feed_stops : (c : ℕ) (s : State) → step c s 10 ≡ None
@@ -177,7 +176,7 @@ refusal_law =
     record {
       none = λ c bytes few short no.
           short_file c bytes (omega (arith, few)) short ∙
-          (elim (tree_of c (without_end (without_mark bytes))) as (λ o. tree_of c (without_end (without_mark bytes)) ≡ o → read_tree o ≡ read.Refused (record { code = TREE_CODE; line = 0 })) [
+          (elim (tree_of c (without_end (without_mark bytes))) as (λ o. tree_of c (without_end (without_mark bytes)) ≡ o → read_tree o ≡ read.Refused (record { code = TREE; line = 0 })) [
             | Some t ↦ λ e. absurd (no t (written c bytes t few e))
             | None ↦ λ e. refl
           ]) refl;
@@ -192,11 +191,11 @@ parsed_tree c bytes t from small e text short =
     sym (short_file c bytes small short ∙ ap read_tree (ap (tree_of c) text ∙ tree_of_proper c (outline t) small proper))
 
 pub parsed_none : (c : ℕ) (bytes : List ℕ) → c < 2 ^ 64 → ((t : Outline) → IsProper c t → without_end (without_mark bytes) ≢ tree_text t) → length bytes ≤ MAX_FILE_BYTES →
-    read.Refused (record { code = TREE_CODE; line = 0 }) ≡ tree_file c bytes
+    read.Refused (record { code = TREE; line = 0 }) ≡ tree_file c bytes
 parsed_none c bytes small none short =
     let text = without_end (without_mark bytes) in
     sym (short_file c bytes small short ∙
-    (elim (tree_of c text) as (λ o. tree_of c text ≡ o → read_tree o ≡ read.Refused (record { code = TREE_CODE; line = 0 })) [
+    (elim (tree_of c text) as (λ o. tree_of c text ≡ o → read_tree o ≡ read.Refused (record { code = TREE; line = 0 })) [
       | Some t ↦ λ e. let f : IsFound c t text = tree_of_found c text t small e in absurd (none t f.proper (sym f.text))
       | None ↦ λ e. refl
     ]) refl)

@@ -3,7 +3,7 @@ use Rattle.std.specs.Prelude.{◌≡◌, ◌⊎◌, ◌↔◌, ℕ, ◌-◌, ◌
 use Rattle.row_model.specs.Limits.{within_length}
 use Rattle.row_model.specs.declared.refusal.Read.{Read}
 use Rattle.row_model.specs.declared.refusal.Read.TheVariants as read
-use Rattle.row_model.specs.declared.code.TheConstants.{LIMIT}
+use Rattle.row_model.specs.declared.code.TheConstants.{LIMIT, TREE}
 use Rattle.row_model.specs.declared.TheConstants.{MAX_COLUMNS, MAX_FILE_BYTES}
 use Rattle.text_lines.specs.Lines.{without_mark}
 use Rattle.pq_tree.specs.Outline.{Outline}
@@ -13,7 +13,6 @@ use Rattle.pq_tree.specs.PqTree.{column_count, outline}
 use Rattle.pq_tree.specs.declared.PqTree.{PqTree}
 use Rattle.command_input.specs.Instances.{map_read, IfRead}
 use Rattle.command_input.specs.TreeReading.{tree_in_text}
-use Rattle.command_input.specs.declared.TheConstants.{TREE_CODE}
 
 -- how many bytes the end of line at the end of a text has: a line feed, perhaps behind a carriage return, or nothing
 abbrev pub end_length : List ℕ → ℕ
@@ -27,7 +26,7 @@ without_end text = take (length text - end_length text) text
 -- the tree, or the refusal of a file that writes none
 abbrev pub read_tree : Option Outline → Read Outline
 read_tree (Some t) = read.Ok t
-read_tree None = read.Refused (record { code = TREE_CODE; line = 0 })
+read_tree None = read.Refused (record { code = TREE; line = 0 })
 
 -- The tree over 1 to c in the bytes of a file, or their refusal. A byte order mark at the start and an end of line at
 -- the end are no part of the tree's text.
@@ -67,7 +66,7 @@ pub record TreeRefusalLaw : Type 0 where
       c ≤ MAX_COLUMNS →
       length bytes ≤ MAX_FILE_BYTES →
       ((t : Outline) → WritesTree c bytes t → ⊥) →
-      tree_file c bytes ≡ read.Refused (record { code = TREE_CODE; line = 0 })
+      tree_file c bytes ≡ read.Refused (record { code = TREE; line = 0 })
   pub long : (c : ℕ) (bytes : List ℕ) →
       MAX_FILE_BYTES < length bytes →
       tree_file c bytes ≡ read.Refused (record { code = LIMIT; line = 0 })

@@ -19,6 +19,3 @@ pub use row_model::NoMemory;
 pub use tree_file::tree_in;
 pub use tree_laws::tree_file_law;
 pub use words::{Task, task_of};
-
-/// The code of the refusal of a file that writes no tree.
-pub const TREE_CODE: u8 = 12;

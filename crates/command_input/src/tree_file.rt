@@ -6,9 +6,9 @@ ghost use Rattle.pq_tree.specs.PqTree.{column_count, outline};
 ghost use Rattle.command_input.specs.Instances.{map_read, IfRead};
 ghost use Rattle.command_input.specs.TreeFiles.{end_length, without_end, tree_file};
 
-use crate::{NoMemory, TREE_CODE};
+use crate::NoMemory;
 use pq_tree::PqTree;
-use row_model::{Read, Refusal};
+use row_model::{Read, Refusal, code};
 use std::alloc::Global;
 use text_lines::without_mark;
 
@@ -26,7 +26,7 @@ pub fn tree_in(alloc: Global, c: u32, bytes: &[u8]) -> Result<Read<PqTree>, NoMe
     match PqTree::parse(alloc, without_end(without_mark(bytes)), c)? {
         Some(tree) => Ok(Read::Ok(tree)),
         None => Ok(Read::Refused(Refusal {
-            code: TREE_CODE,
+            code: code::TREE,
             line: 0,
         })),
     }

@@ -11,7 +11,7 @@
 #![tactic(auto)]
 
 ghost use Rattle.std.specs.Prelude.{◌≡◌};
-ghost use Rattle.command_input.specs.declared.TheConstants.{TREE_CODE};
+ghost use Rattle.row_model.specs.declared.code.TheConstants.{TREE};
 ghost use Rattle.verdict_replies.specs.declared.TheConstants.{MAX_VERDICT_BYTES, MAX_CORE_BYTES};
 
 mod check_core;
@@ -28,8 +28,7 @@ pub use check_core::core_judgement_reply;
 pub use check_unit::finding_reply;
 pub use check_verdict::judgement_reply;
 pub use command_input::{
-    TREE_CODE, Task, graph_law, instance_in, instance_law, long_law, task_of, tree_file_law,
-    tree_in,
+    Task, graph_law, instance_in, instance_law, long_law, task_of, tree_file_law, tree_in,
 };
 pub use core_judgement::CoreJudgement;
 pub use finding::Finding;
@@ -46,5 +45,5 @@ pub use verdict_replies::{
 pub fn values_law()
     ensures verdict_bytes { MAX_VERDICT_BYTES ≡ 134217728 }
     ensures core_bytes { MAX_CORE_BYTES ≡ 1610612736 }
-    ensures tree_code { TREE_CODE ≡ 12 }
+    ensures tree_code { TREE ≡ 12 }
 {}

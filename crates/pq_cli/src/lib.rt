@@ -13,7 +13,7 @@
 ghost use Rattle.std.specs.Prelude.{◌≡◌};
 ghost use Rattle.verdict_replies.specs.declared.TheConstants.{MAX_CORE_BYTES, MAX_VERDICT_BYTES};
 ghost use Rattle.solve_replies.specs.declared.TheConstants.{MAX_EXPLAINED};
-ghost use Rattle.command_input.specs.declared.TheConstants.{TREE_CODE};
+ghost use Rattle.row_model.specs.declared.code.TheConstants.{TREE};
 
 mod command;
 mod extend;
@@ -26,7 +26,7 @@ mod report;
 mod stop;
 mod top;
 
-pub use commands::{MAX_CORE_BYTES, MAX_VERDICT_BYTES, TREE_CODE, tree_file_law};
+pub use commands::{MAX_CORE_BYTES, MAX_VERDICT_BYTES, tree_file_law};
 pub use real::{own_law, run_real, told_files_law, told_law};
 pub use reply_laws::{
     check_law, core_judgement_law, core_law, extend_law, list_law, meet_law, model_law,
@@ -42,5 +42,5 @@ pub fn values_law()
     ensures verdict_bytes { MAX_VERDICT_BYTES ≡ 134217728 }
     ensures core_bytes { MAX_CORE_BYTES ≡ 1610612736 }
     ensures explained { MAX_EXPLAINED ≡ 16 }
-    ensures tree_code { TREE_CODE ≡ 12 }
+    ensures tree_code { TREE ≡ 12 }
 {}

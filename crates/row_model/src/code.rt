@@ -20,3 +20,5 @@ pub const CSV: u8 = 8;
 pub const JSON: u8 = 9;
 /// JSON of another shape.
 pub const SHAPE: u8 = 10;
+/// Bytes that write no tree.
+pub const TREE: u8 = 12;

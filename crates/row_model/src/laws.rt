@@ -2,7 +2,7 @@
 ghost use Rattle.std.specs.Prelude.{◌≡◌};
 ghost use Rattle.row_model.specs.Laws.{JoinedLaw, EvenWalkLaw, OddWalkLaw, ConflictLaw, LinesLaw, MoreRowsLaw};
 
-use crate::code::{COUNT, CSV, EMPTY, GRAMMAR, JSON, LIMIT, RANGE, SHAPE, SYMMETRY, TWICE};
+use crate::code::{COUNT, CSV, EMPTY, GRAMMAR, JSON, LIMIT, RANGE, SHAPE, SYMMETRY, TREE, TWICE};
 use crate::{MAX_COLUMNS, MAX_FILE_BYTES, MAX_ITEMS, MAX_ROWS, ROW_BOUND};
 
 /// The values of the constants of this crate, by their numerals.
@@ -10,6 +10,7 @@ pub fn values_law()
     ensures grammar { (EMPTY ≡ 1) × (GRAMMAR ≡ 2) × (COUNT ≡ 3) }
     ensures names { (RANGE ≡ 4) × (TWICE ≡ 5) × (SYMMETRY ≡ 6) }
     ensures outside { (LIMIT ≡ 7) × (CSV ≡ 8) × (JSON ≡ 9) × (SHAPE ≡ 10) }
+    ensures tree { TREE ≡ 12 }
     ensures limits { (MAX_COLUMNS ≡ 2048) × (MAX_ROWS ≡ 131072) × (MAX_ITEMS ≡ 256) }
     ensures bytes { MAX_FILE_BYTES ≡ 16777216 }
     ensures bound { ROW_BOUND ≡ 16777216 }

@@ -9,7 +9,7 @@ ghost use Rattle.solve_replies.specs.Steps.{made_status, SolvesMatrixWithin};
 use crate::NoMemory;
 use crate::draws::DrawnRows;
 use crate::nodes::{Nodes, count_nodes};
-use c1p_solve::{Taken, begin, take_next, tree_so_far};
+use c1p_solve::{Step, begin, take_next, tree_so_far};
 use pq_tree::PqTree;
 use row_model::Matrix;
 use std::alloc::Global;
@@ -79,10 +79,10 @@ fn grow<L: Ledger>(
     for _k in 0..rows {
         drawn.push_next(&mut row)?;
         ones += row.ones();
-        let Taken::Ok = take_next(&mut reducer, &row, steps) else {
-            unreachable!()
-        };
-        row.pop_row();
+        match take_next(&mut reducer, &row, steps) {
+            Step::Taken => row.pop_row(),
+            Step::Refused => unreachable!(),
+        }
     }
     let tree = tree_so_far(alloc, &reducer)?;
     Ok(Grown { tree, ones })

@@ -85,7 +85,7 @@ unreachable-requires g c =
     let left : c.args.rows - c.loop-k._k ≡ suc (c.args.rows - (c.loop-k._k + 1)) = omega (arith, c.loop-k-test.true) in
     let order : HasValidOrder c.args.columns (so.done ++ row ∷ []) =
     next_order _ c.args.columns _ _ (c.args.rows - (c.loop-k._k + 1)) _ _ _ _ so left (generated_law c.args.seed c.args.columns c.args.rows) in
-    c.take_next.ensures.refused c.in_default.not-Ok so.done c.args.steps.now
+    c.take_next.ensures.refused c.in-Refused.is so.done c.args.steps.now
     (subst (λ n. HasTaken n so.done c.loop-k.reducer c.args.steps.now c.loop-k.steps) (sym columns) so.holds)
     (subst (λ n. HasValidOrder n (so.done ++ c.push_next.new.m.rows)) (sym columns) (subst (λ (rs : List (List ℕ)). HasValidOrder c.args.columns (so.done ++ rs)) (sym one) order))
 
@@ -103,7 +103,7 @@ loop-k-preserved g c =
     let taken : HasTaken c.args.columns (so.done ++ row ∷ []) c.take_next.new.reducer c.args.steps.now c.take_next.new.steps =
     subst (λ (rs : List (List ℕ)). HasTaken c.args.columns (so.done ++ rs) c.take_next.new.reducer c.args.steps.now c.take_next.new.steps) one
     (subst (λ n. HasTaken n (so.done ++ c.push_next.new.m.rows) c.take_next.new.reducer c.args.steps.now c.take_next.new.steps) columns
-    (c.take_next.ensures.taken c.in-Ok.is so.done c.args.steps.now (subst (λ n. HasTaken n so.done c.loop-k.reducer c.args.steps.now c.loop-k.steps) (sym columns) so.holds))) in
+    (c.take_next.ensures.taken c.in-Taken.is so.done c.args.steps.now (subst (λ n. HasTaken n so.done c.loop-k.reducer c.args.steps.now c.loop-k.steps) (sym columns) so.holds))) in
     let more : IsGrown (λ done. HasTaken c.args.columns done c.take_next.new.reducer c.args.steps.now c.take_next.new.steps) (c.loop-k._k + 1) less all (c.loop-k.ones + c.ones-ones.result) o (next_state (next_state x)) =
     grown_more _ (λ done. HasTaken c.args.columns done c.take_next.new.reducer c.args.steps.now c.take_next.new.steps) _ _ less _ _ c.ones-ones.result _ _ so left taken
     (row_ones c.push_next.new.m row c.ones-ones.result one c.ones-ones.ensures) (omega (arith, order_length c.args.columns o c.loop-k.invariant.ready.is_order, c.requires.columns)) in
