@@ -83,6 +83,3 @@ pub fn is_complete_counted<L: Ledger>(
     let mut stretches = stretch::of_tree(alloc, tree)?;
     free::are_free(alloc, &gaps, &mut stretches, steps)
 }
-
-#[cfg(test)]
-mod tests;

@@ -12,7 +12,7 @@ use std::alloc::Global;
 /// The gap between the leaves at the positions `at - 1` and `at`, which part at a node, with the positions from `from`
 /// to before `to`: those of all leaves of the node if it is a P-node, and of the two children with these leaves if it
 /// is a Q-node. Positions count from 0.
-#[derive(Clone, Copy, Debug, PartialEq, Eq)]
+#[derive(Clone, Copy)]
 pub struct Stretch {
     /// The position behind the gap.
     pub at: u32,

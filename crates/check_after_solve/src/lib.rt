@@ -11,9 +11,6 @@ use pq_io::{MemSink, NeverShelf, NeverSink, NoMemory, Sink};
 use reply_laws::solved_law;
 use std::alloc::Global;
 
-#[cfg(test)]
-mod tests;
-
 /// How `solve` ended, and the check of what it wrote.
 #[derive(Clone, Copy, Debug, PartialEq, Eq)]
 pub enum Ended {

@@ -1,6 +1,8 @@
 // A solver that counts how often it is asked, and what a core costs it.
 ghost use Rattle.std.specs.Prelude.{◌≡◌, ◌<◌, length, IfOk};
 
+mod others;
+
 use c1p_solve::answer;
 use row_core::{Cored, find_core};
 use row_judge::{Judge, Judged};

@@ -1,3 +1,4 @@
+mod bound;
 mod plain;
 mod small;
 mod trees;

@@ -11,7 +11,5 @@ mod others;
 mod spans;
 mod square;
 mod table;
-#[cfg(test)]
-mod tests;
 
 pub use others::Others;

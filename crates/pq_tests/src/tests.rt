@@ -1,5 +1,6 @@
 // The tests, by what is tested.
 
+mod both;
 mod drawn;
 mod few;
 mod limits;

@@ -1,5 +1,5 @@
-// Both runs over small instances.
-use crate::{Ended, solve_then_check};
+// Both runs of a solve and its check over small instances.
+use check_after_solve::{Ended, solve_then_check};
 use pq_io::{MemSink, NoMemory};
 use std::alloc::Global;
 use std::test::Fail;

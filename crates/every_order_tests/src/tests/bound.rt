@@ -1,6 +1,8 @@
 // Trees that have all valid orders of some rows among their frontiers, and trees that have too few.
-use super::*;
-use crate::stretch::Stretch;
+use bound_tree::is_complete;
+use pq_tree::PqTree;
+use row_model::{Matrix, NoMemory};
+use std::alloc::Global;
 use std::process::Abort;
 use std::test::Fail;
 
@@ -107,26 +109,5 @@ fn many_positions_are_passed(rt: HostRuntime) -> Result<(), Fail> {
     assert_bound(&rt, alloc, &m, b"[1 2 3 4 5 6 7 8]", false)?;
     assert_bound(&rt, alloc, &m, b"[1 2 (3 4 5) 6 7 8]", true)?;
     assert_bound(&rt, alloc, &m, b"[1 2 3 [4 5 6] 7 8]", false)?;
-    Ok(())
-}
-
-#[test]
-fn a_stretch_for_each_gap(rt: HostRuntime) -> Result<(), Fail> {
-    let alloc = rt.alloc();
-    let tree = PqTree::parse(alloc, b"([1 2 3] 4)", 4)?.ok_or("no tree has this text")?;
-    let near = |at: u32| Stretch {
-        at,
-        from: at - 1,
-        to: at + 1,
-    };
-    let whole = Stretch {
-        at: 3,
-        from: 0,
-        to: 4,
-    };
-    assert_eq!(rt;
-        stretch::of_tree(alloc, &tree)?.as_slice(),
-        [near(1), near(2), whole].as_slice()
-    );
     Ok(())
 }

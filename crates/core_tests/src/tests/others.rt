@@ -1,8 +1,7 @@
-// Orders judged by a table and row by row.
+// Orders judged for all rows but one.
 ghost use Rattle.std.specs.Prelude.{◌≡◌, ◌<◌, length};
 
-use crate::Others;
-use crate::each::keeps_others;
+use others_kept::Others;
 use row_model::{Matrix, NoMemory};
 use std::alloc::Global;
 use std::process::Abort;
@@ -26,8 +25,6 @@ fn assert_kept(
     let others = Others::new(alloc, m, &rows, first)?;
     let found = others.are_kept(alloc, m, &rows, i, order)?;
     assert_eq!(rt; found, kept);
-    let plain = keeps_others(alloc, m, &rows, i, order)?;
-    assert_eq!(rt; plain, kept);
     Ok(())
 }
 

@@ -1,7 +1,7 @@
 use Rattle.std.proofs.Common.{◌∙◌, List, ℕ, subst}
 use Rattle.std.specs.Prelude.{All}
 use Rattle.column_order.specs.Orders.{Keeps}
-use Rattle.bound_tree.proofs.tests.assert_bound.Goals as goal
+use Rattle.every_order_tests.proofs.tests.bound.assert_bound.Goals as goal
 
 pub is_complete-requires-clause-kept : goal.is_complete-requires-clause-kept
 is_complete-requires-clause-kept g c =
