@@ -1,7 +1,7 @@
 #!/usr/bin/env python3
 """Runs a command of the toolchain, and says for each crate how long its proof, its tests and its must-fail edits took.
 
-Usage: scripts/gate_times.py rt ci            prints what the command prints, and then the table
+Usage: scripts/gate_times.py rt ci            prints what the command prints, then what each edit took, and then the table
        scripts/gate_times.py write rt ci      and writes the table into docs/WORKING.md as well
 
 Seconds are of the processor, by looks at the prover's processes five times a second: of each process the last look counts, so some tenths
@@ -9,6 +9,7 @@ of a second of each are missing. From and to are minutes of the run. The longest
 proofs took the most together: with any number of processors, one to a crate, the run can't be shorter. The status is the command's.
 """
 
+import functools
 import os
 import resource
 import subprocess
@@ -23,13 +24,15 @@ BEGIN, END = "<!-- Begin of the table that scripts/gate_times.py makes -->", "<!
 SECONDS_BETWEEN_LOOKS = 0.2
 TICKS = os.sysconf("SC_CLK_TCK")
 KINDS = ["proof", "tests", "edits"]
+# What the edits of a crate are tried over: its own proof, made once more.
+UNEDITED = "its own proof"
 
 
 class Look:
-    """What was seen of a process of the prover: what it works on, its processor time, and when it was seen first and last."""
+    """What was seen of a process of the prover: what it works on, by which edit, its processor time, and when it was seen first and last."""
 
-    def __init__(self, task, now):
-        self.task, self.first, self.last, self.seconds = task, now, now, 0.0
+    def __init__(self, task, edit, now):
+        self.task, self.edit, self.first, self.last, self.seconds = task, edit, now, now, 0.0
 
 
 def task_of(pid):
@@ -38,9 +41,43 @@ def task_of(pid):
         words = stream.read().decode(errors="replace").split("\0")
     if not words[0].endswith("/rattle") or "--crate-name" not in words:
         return None
-    folder = os.readlink(f"/proc/{pid}/cwd")
-    kind = "edits" if "rt-edit-" in folder else "tests" if "--test" in words else "proof"
+    kind = "edits" if "rt-edit-" in os.readlink(f"/proc/{pid}/cwd") else "tests" if "--test" in words else "proof"
     return words[words.index("--crate-name") + 1], kind
+
+
+def read(path):
+    """The text of a file."""
+    with open(path, encoding="utf-8") as stream:
+        return stream.read()
+
+
+def first_change(edit):
+    """The file that an edit changes first, the text that it looks for there, and what it puts in its place."""
+    words = {}
+    for word, _, rest in (line.partition(":") for line in edit.split("\n")):
+        words.setdefault(word, rest.removeprefix(" "))
+        if word == "new":
+            break
+    return words["file"].strip(), words["old"], words["new"]
+
+
+@functools.cache
+def edits_of(crate):
+    """The must-fail edits of a crate: for each its name, and a file that it changes with the text that it has then."""
+    top = os.path.join(build.HOME, "crates", crate)
+    found = []
+    for name in sorted(os.listdir(os.path.join(top, "must-fail"))):
+        path, old, new = first_change(read(os.path.join(top, "must-fail", name)))
+        found.append((name.removesuffix(".edit"), path, read(os.path.join(top, path)).replace(old, new)))
+    return found
+
+
+def edit_of(pid, task):
+    """By which edit a crate is changed, as far as the first change of each shows it."""
+    if task is None or task[1] != "edits":
+        return None
+    changed = (name for name, path, text in edits_of(task[0]) if read(f"/proc/{pid}/cwd/{path}") == text)
+    return next(changed, UNEDITED)
 
 
 def descendants(top):
@@ -69,7 +106,10 @@ def watch(process, looks):
         now = time.monotonic() - begun
         for pid, seconds in descendants(process.pid).items():
             try:
-                look = looks.get(pid) or Look(task_of(pid), now)
+                look = looks.get(pid)
+                if look is None:
+                    task = task_of(pid)
+                    look = Look(task, edit_of(pid, task), now)
             except OSError:
                 continue
             if look.task:
@@ -85,6 +125,15 @@ def together(looks):
         seconds, first, last = found.get(look.task, (0.0, look.first, look.last))
         found[look.task] = (seconds + look.seconds, min(first, look.first), max(last, look.last))
     return found
+
+
+def lines_of_edits(looks):
+    """What each edit took, the dearest first, one a line; a crate with several edits is proved once more, and checked, without one."""
+    found = {}
+    for look in looks.values():
+        if look.edit:
+            found[look.task[0], look.edit] = found.get((look.task[0], look.edit), 0.0) + look.seconds
+    return [f"{seconds:.0f} s: {crate}, {edit}" for (crate, edit), seconds in sorted(found.items(), key=lambda one: -one[1])]
 
 
 def longest_chain(found):
@@ -142,7 +191,7 @@ def main(words):
     watcher.join()
     used = resource.getrusage(resource.RUSAGE_CHILDREN)
     lines = table(together(looks), (time.monotonic() - begun) / 60, used.ru_utime + used.ru_stime)
-    print("\n".join(lines))
+    print("\n".join(lines_of_edits(looks) + lines))
     if is_written:
         write(lines)
     return status
