@@ -10,14 +10,13 @@ what is said of changed ones with a plain checker; bounds what hostile files cos
 Usage: end_to_end/check.py [PART ..]   after `rt ci` or `./pq`, which leave the program in crates/pq/out/pq
 
 PARTs pick some of the checks: `cases` (files and streams), `pages`, `answers` (of small instances, at the limits, of `gen`, of sessions, of lists, of
-unit models, of cores and of drawn cycles), `forgeries`, `trees`, `meetings`, `hostile`, `first_call`, `try`, `companion`, `library`,
-`page`, `release`, `fuzz` (a few drawn runs of each command and kind), `growth` (where valgrind is there); default all.
-The last line is `N passed, N failed`; the status is 0 where
-nothing failed.
+unit models, of cores and of drawn cycles), `forgeries`, `trees`, `meetings`, `hostile`, `first_call`, `try`, `companion`, `companion_kinds`,
+`library`, `page`, `release`, `fuzz` (a few drawn runs of each command and kind), `growth` (where valgrind is there); default all.
+The last line is `N passed, N failed`; the status is 0 where nothing failed.
 """
 
 import concurrent.futures
-import itertools
+import contextlib
 import os
 import shutil
 import subprocess
@@ -105,52 +104,64 @@ EXAMPLES = [("nested.txt", "matrix"), ("chain.txt", "rows"), ("graves.csv", "tab
             ("jobs.txt", "convex"), ("path.txt", "doubly"), ("overlaps.txt", "proper"), ("distances.txt", "robinson")]
 
 
+@contextlib.contextmanager
+def copied_program():
+    """A folder for the time being, and in it a copy of the program, both of which every user may read."""
+    with tempfile.TemporaryDirectory() as top:
+        os.chmod(top, 0o755)
+        program = shutil.copy(PROGRAM, os.path.join(top, "pq"))
+        os.chmod(program, 0o755)
+        yield top, program
+
+
 def example(name):
     """The bytes of an example."""
     with open(os.path.join(HOME, "examples", name), "rb") as file:
         return file.read()
 
 
-def in_folders(report, top, program):
+def in_folders():
     """The cases and the streams, each in a folder of its own."""
     tried = [(case["name"], run_case, case) for case in CASES + KIND_CASES + GRAPH_CASES + SESSION_CASES + LIST_CASES + FORGED_CASES]
     tried += [(case["name"], run_case, case) for case in meetings.MEET_CASES + units.UNIT_CASES + CORE_CASES + ROW_CASES]
     tried += [(name, lambda _, *given, stream=stream: stream(*given), None) for name, stream in streams()]
-    for number, (name, check, case) in enumerate(tried):
-        folder = os.path.join(top, str(number))
-        os.mkdir(folder)
-        try:
-            problem = check(case, folder, program)
-        except subprocess.TimeoutExpired:
-            problem = f"no end within {SECONDS} seconds"
-        report.tell(name, problem)
-        shutil.rmtree(folder)
+    with copied_program() as (top, program):
+        for number, (name, check, case) in enumerate(tried):
+            folder = os.path.join(top, str(number))
+            os.mkdir(folder)
+            try:
+                problem = check(case, folder, program)
+            except subprocess.TimeoutExpired:
+                problem = f"no end within {SECONDS} seconds"
+            yield name, problem
+            shutil.rmtree(folder)
 
 
-def on_pages(report, top, program):
+def on_pages():
     """The commands of the pages, each page in a folder of its own."""
-    for page in pages():
-        folder = os.path.join(top, page.replace(os.sep, "_"))
+    with copied_program() as (top, program):
+        for page_of_docs in pages():
+            folder = os.path.join(top, page_of_docs.replace(os.sep, "_"))
+            os.mkdir(folder)
+            for command, problem in page_problems(page_of_docs, folder, program):
+                yield f"{page_of_docs}: {command}", problem
+            yield f"{page_of_docs}: commands that are not run", difference("lines", [], loose_commands(page_of_docs))
+        folder = os.path.join(top, "blanks")
         os.mkdir(folder)
-        for command, problem in page_problems(page, folder, program):
-            report.tell(f"{page}: {command}", problem)
-        report.tell(f"{page}: commands that are not run", difference("lines", [], loose_commands(page)))
-    folder = os.path.join(top, "blanks")
-    os.mkdir(folder)
-    for command, problem in blank_problems(folder, program):
-        report.tell(f"recipes on a table with blanks: {command}", problem)
+        for command, problem in blank_problems(folder, program):
+            yield f"recipes on a table with blanks: {command}", problem
 
 
-def side_by_side(report, tried):
-    """Checks that need no folder of their own: each with its name, its function and what it is handed."""
+def side_by_side():
+    """The checks that need no folder of their own, on all processors."""
     with concurrent.futures.ThreadPoolExecutor(os.cpu_count()) as pool:
-        running = [(name, pool.submit(check, *given)) for name, check, given in tried]
+        running = [(name, pool.submit(check, *given)) for name, check, given in without_folders()]
         for name, problem in running:
-            report.tell(name, problem.result())
+            yield name, problem.result()
 
 
 def without_folders():
-    """What is checked without a folder of its own."""
+    """What is checked without a folder of its own: for each its name, its function and what that is handed."""
     for name, kind, content in SOLVED + GRAPH_SOLVED + AT_LIMITS + [(name, kind, example(name)) for name, kind in EXAMPLES]:
         yield f"check of {kind}: {name}", not_believed, (kind, content)
     for name, columns, rows in REFUTED:
@@ -173,28 +184,29 @@ def without_folders():
 
 # The seed of the drawn runs, and how many there are of each command and kind.
 DRAWN = (1, 60)
-# The checks that tell each name with its problem, by the words that pick them.
-FURTHER = {"forgeries": lambda: forgeries.compared(Limits()), "trees": other_trees.compared, "hostile": hostile_problems,
-           "first_call": first_call.problems, "try": tries.problems,
-           "companion": lambda: itertools.chain(companion.problems(), companion_kinds.problems()), "library": library.problems, "page": page.problems}
-FURTHER |= {"meetings": meetings.compared, "release": releases.problems, "fuzz": lambda: fuzz.problems(*DRAWN), "growth": growth.problems}
-PARTS = ["cases", "pages", "answers", *FURTHER]
+# The checks that tell each name with its problem, by the words that pick them. The first use a processor each, so they run side by side, the
+# longest first. The others use all processors, and the bounds of the last are of time, so they run in turn.
+SINGLE = {"companion": companion.problems, "companion_kinds": companion_kinds.problems, "try": tries.problems, "first_call": first_call.problems,
+          "cases": in_folders, "pages": on_pages, "library": library.problems, "page": page.problems, "release": releases.problems}
+WIDE = {"answers": side_by_side, "forgeries": lambda: forgeries.compared(Limits()), "trees": other_trees.compared, "meetings": meetings.compared,
+        "fuzz": lambda: fuzz.problems(*DRAWN), "growth": growth.problems, "hostile": hostile_problems}
+PARTS = [*SINGLE, *WIDE]
+
+
+def found_in(part):
+    """The checks of a part that uses one processor, each with its problem."""
+    return list(SINGLE[part]())
 
 
 def check_parts(report, parts):
     """Runs these parts of the checks."""
-    with tempfile.TemporaryDirectory() as top:
-        os.chmod(top, 0o755)
-        program = shutil.copy(PROGRAM, os.path.join(top, "pq"))
-        os.chmod(program, 0o755)
-        if "cases" in parts:
-            in_folders(report, top, program)
-        if "pages" in parts:
-            on_pages(report, top, program)
-    if "answers" in parts:
-        side_by_side(report, without_folders())
-    for part in parts:
-        for name, problem in FURTHER.get(part, list)():
+    with concurrent.futures.ProcessPoolExecutor(os.cpu_count()) as pool:
+        running = [pool.submit(found_in, part) for part in SINGLE if part in parts]
+        for found in running:
+            for name, problem in found.result():
+                report.tell(name, problem)
+    for part in WIDE:
+        for name, problem in WIDE[part]() if part in parts else []:
             report.tell(name, problem)
 
 
