@@ -185,11 +185,12 @@ def without_folders():
 # The seed of the drawn runs, and how many there are of each command and kind.
 DRAWN = (1, 60)
 # The checks that tell each name with its problem, by the words that pick them. The first use a processor each, so they run side by side, the
-# longest first. The others use all processors, and the bounds of the last are of time, so they run in turn.
+# longest first. The others use all processors, or what another of them made, and the bounds of the last are of time, so they run in turn.
 SINGLE = {"companion": companion.problems, "companion_kinds": companion_kinds.problems, "try": tries.problems, "first_call": first_call.problems,
-          "cases": in_folders, "pages": on_pages, "library": library.problems, "page": page.problems, "release": releases.problems}
+          "cases": in_folders, "pages": on_pages, "release": releases.problems}
 WIDE = {"answers": side_by_side, "forgeries": lambda: forgeries.compared(Limits()), "trees": other_trees.compared, "meetings": meetings.compared,
-        "fuzz": lambda: fuzz.problems(*DRAWN), "growth": growth.problems, "hostile": hostile_problems}
+        "fuzz": lambda: fuzz.problems(*DRAWN), "library": library.problems, "page": page.problems, "growth": growth.problems,
+        "hostile": hostile_problems}
 PARTS = [*SINGLE, *WIDE]
 
 
