@@ -185,7 +185,7 @@ def without_folders():
 # The seed of the drawn runs, and how many there are of each command and kind.
 DRAWN = (1, 60)
 # The checks that tell each name with its problem, by the words that pick them. The first use a processor each, so they run side by side, the
-# longest first. The others use all processors, or what another of them made, and the bounds of the last are of time, so they run in turn.
+# longest first. The others use all processors, or build in this checkout, and the bounds of the last are of time, so they run in turn.
 SINGLE = {"companion": companion.problems, "companion_kinds": companion_kinds.problems, "try": tries.problems, "first_call": first_call.problems,
           "cases": in_folders, "pages": on_pages, "release": releases.problems}
 WIDE = {"answers": side_by_side, "forgeries": lambda: forgeries.compared(Limits()), "trees": other_trees.compared, "meetings": meetings.compared,
