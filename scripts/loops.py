@@ -9,10 +9,12 @@ UNTICKED = {
     "odd_cycle": {"short_cycle": 4, "cut": 1, "has_flip": 1, "sorted_columns": 2, "is_rising": 1, "is_folded": 2},
     "open_gaps": {"cover": 1, "of_parts": 1, "gaps_of_all": 4, "gaps_of": 3, "take_row": 1, "new": 1, "of_rows": 1, "span_in_order": 1},
     "walk_search": {"way_down": 2, "add_way_up": 1, "closed_walk": 2, "rows_by_column k": 1, "joined": 1, "simple_cycle": 1, "new": 1, "search": 3, "search_along": 2},
+    "border_ways": {
+        "walk_around": 3, "add_forth": 1, "add_back": 1, "columns_near": 2, "openers": 2, "odd_links": 4, "closed_at_once": 1, "is_known": 1,
+        "odd_circle": 4, "circle_by": 4, "first_left": 2, "place_among": 1, "spread": 3, "path_up": 1, "add_lines": 1, "settle": 4, "add_spread": 1,
+    },
     "incompat_graph": {
-        "walk_around": 3, "add_forth": 1, "add_back": 1, "columns_near": 2, "openers": 2, "is_odd_walk": 1, "odd_links": 4, "closed_at_once": 1,
-        "is_known": 1, "odd_circle": 4, "circle_by": 4, "first_left": 2, "place_among": 1, "spread": 3, "path_up": 1, "add_lines": 1, "settle": 4,
-        "lines_of": 1, "part_of": 2, "without_repeats": 4, "add_spread": 1, "is_folded_walk": 1, "lines_in": 1, "any_cycle": 1, "quick_cycle": 1,
+        "is_odd_walk": 1, "lines_of": 1, "part_of": 2, "without_repeats": 4, "is_folded_walk": 1, "lines_in": 1, "any_cycle": 1, "quick_cycle": 1,
     },
 }
 # The same of the crates that reduce a row in place, where no call of the arena is taken for a step. They set tables up and give a tree out;

@@ -89,12 +89,13 @@ PROMISED = {
 }
 # The crates that search, and their functions that may name a matrix: those with a signature of their own, which hand its rows on as
 # `CountedRows`; those of the judge, who counts no steps; and those of the small matrix that an attempt makes for itself.
-SEARCHING = ["pair_classes", "odd_cycle", "open_gaps", "walk_search", "incompat_graph"]
+SEARCHING = ["pair_classes", "odd_cycle", "open_gaps", "walk_search", "border_ways", "incompat_graph"]
 UNCOUNTED = {
     "pair_classes": {"even_classes"},
     "odd_cycle": set(),
     "open_gaps": {"of_rows", "gaps_of_all"},
     "walk_search": {"odd_walk", "joined", "simple_cycle"},
+    "border_ways": set(),
     "incompat_graph": {"odd_cycle_along"},
 }
 # Of these, those that hand the matrix on.
@@ -120,7 +121,7 @@ TOLD = {
     "tell": "report(&failure, err);",
 }
 # The crates that reduce or search, and those that reach them by the solver alone.
-BEHIND_SOLVER = {"pq_arena", "bubble_pass", "templates_q", "full_pass", "templates_p", "row_reduce", "walk_search", "incompat_graph", "pq_plain"}
+BEHIND_SOLVER = {"pq_arena", "bubble_pass", "templates_q", "full_pass", "templates_p", "row_reduce", "walk_search", "border_ways", "incompat_graph", "pq_plain"}
 BEFORE_SOLVER = ["solve_replies", "reply_laws", "pq_cli", "pq", "pq_gen", "pq_c"]
 PYTHON = ["end_to_end", "bench", "scripts"]
 CONTRACTS = os.path.join("docs", "CONTRACTS.md")

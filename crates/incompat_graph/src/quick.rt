@@ -5,15 +5,11 @@ ghost use Rattle.row_model.specs.Graph.{HasConflict};
 ghost use Rattle.row_model.specs.Cycles.{IsOddCycle};
 ghost use Rattle.odd_cycle.specs.Short.{IsShort};
 
-use crate::around::walk_around;
-use crate::borders::met_at_borders;
 use crate::checked::checked_cycle;
-use crate::links::odd_links;
 use crate::part::lines_at_half;
 use crate::repeats::without_repeats;
-use crate::sample::{Sample, sample_of};
 use crate::shorter::shorter_cycle;
-use crate::ways::Front;
+use border_ways::{Front, Sample, met_at_borders, odd_links, sample_of, walk_around};
 use odd_cycle::{Cycle, short_cycle};
 use open_gaps::OpenGaps;
 use row_model::{CountedRows, Matrix, NoMemory, positions};

@@ -4,8 +4,8 @@ ghost use Rattle.row_model.specs.Cycles.{IsOddCycle};
 ghost use Rattle.odd_cycle.specs.Short.{IsShort};
 
 use crate::checked::checked_cycle;
-use crate::met::Met;
 use crate::part::lines_among;
+use border_ways::Met;
 use odd_cycle::Cycle;
 use row_model::{CountedRows, Line, NoMemory};
 use std::alloc::Global;

@@ -1,5 +1,0 @@
-use Rattle.std.proofs.Common.{◌≡◌, ◌+◌, ◌*◌, ◌≤◌, length}
-use Rattle.incompat_graph.proofs.around.walk_around.Given as goal
-
-abbrev pub invariant-loop-link : goal.invariant-loop-link
-invariant-loop-link g l = record { ticks : l.steps + l.left ≡ l.fn.steps + l.fn.left; turns : l.fn.steps + length l.lines.items ≤ l.steps + 2 * l.link-index }
