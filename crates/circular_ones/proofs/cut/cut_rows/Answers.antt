@@ -1,4 +1,5 @@
-use Rattle.std.proofs.Common.{◌≡◌, ◌∙◌, ◌-◌, ◌+◌, [], sym, ap}
+use Rattle.std.proofs.Common.{◌≡◌, ◌∙◌, ◌-◌, ◌+◌, [], sym, ap, arith}
+use Rattle.std.proofs.lemmas.Grind.{common_steps}
 use Rattle.std.proofs.lemmas.Bool.{cond-true, cond-false}
 use Rattle.std.proofs.lemmas.Option.{get_or_from_slice_get}
 use Rattle.column_order.specs.Orders.{has}
@@ -29,3 +30,12 @@ loop-k-preserved c =
           let stays : row ≡ cut_row m.columns row = sym (cond-false (has row 1) (complement m.columns row) row (sym same ∙ w.if-is_cut.false)) in
           rw w.rows-is (cut_next w.push_row-else-is_cut.new.self c.loop-k.rows m.columns k m.rows row row w.in_ok-push_row-2.ensures.ok stays c.loop-k.invariant c.row-row.ensures.row)
     ]
+
+pub push_row-requires-clause-room : goal.push_row-requires-clause-room
+push_row-requires-clause-room c = grind (arith, common_steps)
+
+pub push_row-requires-else-is_cut-clause-room : goal.push_row-requires-else-is_cut-clause-room
+push_row-requires-else-is_cut-clause-room c = grind (arith, common_steps)
+
+pub returns : goal.returns
+returns c = grind (arith, common_steps)
