@@ -1,4 +1,5 @@
 use Rattle.std.proofs.Common.{◌-◌, ◌≤◌, ℕ, [], length, sym, subst, arith}
+use Rattle.std.proofs.lemmas.Grind.{common_steps}
 use Rattle.arena_model.specs.declared.Shape.TheVariants.{P}
 use Rattle.arena_model.specs.Layout.{Layout, StandsAlone, taken}
 use Rattle.pq_arena.specs.RowNodes.{indices}
@@ -72,3 +73,12 @@ pub returns-clause-made : goal.returns-clause-made
 returns-clause-made g c =
     (group_done _ _ _ _ _ _ _ _ c.layout_law.ensures c.layout_law-3.ensures c.attach.ensures.changed c.mark.ensures (can_group _ _ _ c.requires.can c.requires.many)
     (gather_end _ _ _ _ _ _ _ _ _ c.loop-left.invariant (omega (arith, c.loop-left-test.false)))).1
+
+pub counts-counts-requires : goal.counts-counts-requires
+counts-counts-requires g c = grind (arith, common_steps)
+
+pub first_child-next-requires : goal.first_child-next-requires
+first_child-next-requires g c = grind (arith, common_steps)
+
+pub mark-requires : goal.mark-requires
+mark-requires g c = grind (arith, common_steps)

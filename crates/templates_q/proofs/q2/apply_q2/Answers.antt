@@ -1,4 +1,5 @@
-use Rattle.std.proofs.Common.{◌≡◌, sym, ◌∙◌}
+use Rattle.std.proofs.Common.{◌≡◌, sym, ◌∙◌, arith}
+use Rattle.std.proofs.lemmas.Grind.{common_steps}
 use Rattle.bubble_pass.specs.Marks.{partials_at}
 use Rattle.template_model.proofs.Unchanged.{unchanged}
 use Rattle.templates_q.proofs.Splicing.{spliced_treated}
@@ -42,3 +43,6 @@ pub returns-clause-unchanged : goal.returns-clause-unchanged
 returns-clause-unchanged g c = λ plain.
     let none = plain_count c.args.arena.now c.args.work.now c.args.node.index c.requires.ready.right plain in
     absurd (c.if-counts-eq0.false (c.counts.ensures.partial ∙ none))
+
+pub counts-requires : goal.counts-requires
+counts-requires g c = grind (arith, common_steps)

@@ -1,4 +1,5 @@
-use Rattle.std.proofs.Common.{◌≡◌, true, false, inl, inr, sym, ◌∙◌, reverse}
+use Rattle.std.proofs.Common.{◌≡◌, true, false, inl, inr, sym, ◌∙◌, reverse, arith}
+use Rattle.std.proofs.lemmas.Grind.{common_steps}
 use Rattle.arena_model.specs.declared.Shape.TheVariants.{Q}
 use Rattle.arena_model.specs.Layout.{children_at}
 use Rattle.arena_model.proofs.Slots.{some_inj}
@@ -34,3 +35,6 @@ returns-clause-side g c =
         | inr r ↦ r
       ],
     )
+
+pub counts-counts-requires : goal.counts-counts-requires
+counts-counts-requires g c = grind (arith, common_steps)

@@ -1,4 +1,5 @@
 use Rattle.std.proofs.Common.{◌+◌, ◌*◌, ◌≤◌, sym, ◌∙◌, arith}
+use Rattle.std.proofs.lemmas.Grind.{common_steps}
 use Rattle.arena_model.specs.Layout.{children_at}
 use Rattle.template_model.proofs.Unchanged.{unchanged}
 use Rattle.templates_q.specs.Span.{labelled_in}
@@ -50,3 +51,6 @@ returns-in-Some-clause-unchanged g c = λ plain.
     let x = first_marked f w n c.in-Some.x c.requires.stands.fits.0 c.requires.ready.right (sym c.first_child.ensures ∙ c.in-Some.is) in
     let r = c.stretch_around-seen.ensures.stretch n x in
     plain_unopened f c.open_ends.new.arena w n c.stretch_around-seen.result r plain (c.open_ends.ensures.opened n r (all_shaped f w n c.requires.stands))
+
+pub first_child-requires : goal.first_child-requires
+first_child-requires g c = grind (arith, common_steps)

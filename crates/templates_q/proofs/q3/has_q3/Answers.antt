@@ -1,4 +1,5 @@
 use Rattle.std.proofs.Common.{◌≡◌, ◌+◌, ◌≤◌, ◌*◌, true, false, Some, refl, sym, ap, ◌∙◌, arith}
+use Rattle.std.proofs.lemmas.Grind.{common_steps}
 use Rattle.arena_model.specs.declared.Shape.TheVariants.{Q}
 use Rattle.arena_model.specs.Layout.{shape_at, children_at}
 use Rattle.templates_q.specs.Span.{labelled_in}
@@ -47,3 +48,9 @@ returns-else-spans-clause-ticks g c =
     let x = first_marked f w n c.in-Some.x (c.requires.shown.shape_is ∙ ap Some c.requires.q) c.requires.ready.right (sym c.first_child.ensures ∙ c.in-Some.is) in
     let t : c.stretch_around-seen.new.steps ≤ c.args.steps.now + 2 * labelled_in w (children_at f n) = c.stretch_around-seen.ensures.ticks n x in
     omega (arith, c.requires.ready.right.full, c.requires.ready.right.partial)
+
+pub first_child-requires : goal.first_child-requires
+first_child-requires g c = grind (arith, common_steps)
+
+pub counts-counts-requires : goal.counts-counts-requires
+counts-counts-requires g c = grind (arith, common_steps)

@@ -1,4 +1,5 @@
-use Rattle.std.proofs.Common.{sym, ◌∙◌}
+use Rattle.std.proofs.Common.{sym, ◌∙◌, arith}
+use Rattle.std.proofs.lemmas.Grind.{common_steps}
 use Rattle.arena_model.specs.Layout.{here}
 use Rattle.bubble_pass.specs.Chains.{entry}
 use Rattle.bubble_pass.specs.Roots.{below}
@@ -23,3 +24,6 @@ returns-clause-smallest g c =
 
 pub loop-self-init : goal.loop-self-init
 loop-self-init g c = descent_start c.args.arena.now g.leaves c.args.climber.now c.args.self.now c.args.top.index c.requires.1
+
+pub loop-self-smaller : goal.loop-self-smaller
+loop-self-smaller g c = grind (arith, common_steps)

@@ -1,4 +1,5 @@
-use Rattle.std.proofs.Common.{subst, Some, None, sym, ap, ◌∙◌}
+use Rattle.std.proofs.Common.{subst, Some, None, sym, ap, ◌∙◌, arith}
+use Rattle.std.proofs.lemmas.Grind.{common_steps}
 use Rattle.pq_arena.specs.Looks.{shown_ends, shown_count}
 use Rattle.arena_model.specs.Layout.{children_at}
 use Rattle.bubble_pass.specs.Moves.{near0}
@@ -88,3 +89,6 @@ returns-else-full_of-view-clause-some g c = partial_some
 
 pub returns-else-full_of-view-clause-ticks : goal.returns-else-full_of-view-clause-ticks
 returns-else-full_of-view-clause-ticks g c = one_look _ _ _ c.look-view.ensures.ticks
+
+pub look-view-requires : goal.look-view-requires
+look-view-requires g c = grind (arith, common_steps)
