@@ -1,5 +1,4 @@
-use Rattle.std.proofs.Common.{◌≡◌, true, false, inl, inr, refl, sym, ◌∙◌, reverse, arith}
-use Rattle.std.proofs.lemmas.Grind.{common_steps}
+use Rattle.std.proofs.Common.{◌≡◌, true, false, inl, inr, refl, sym, ◌∙◌, reverse}
 use Rattle.arena_model.specs.Layout.{children_at}
 use Rattle.bubble_pass.specs.declared.labels.Label.TheVariants.{Empty}
 use Rattle.templates_q.specs.Walk.{AreAll}
@@ -54,6 +53,3 @@ returns-clause-fits g c = λ ps m.
         | inr r ↦ run2.1 r
       ]),
     )
-
-pub counts-counts-requires : goal.counts-counts-requires
-counts-counts-requires g c = grind (arith, common_steps)

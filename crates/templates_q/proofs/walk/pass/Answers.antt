@@ -1,5 +1,4 @@
 use Rattle.std.proofs.Common.{◌≡◌, ◌+◌, ◌≤◌, ◌<◌, length, sym, arith}
-use Rattle.std.proofs.lemmas.Grind.{common_steps}
 use Rattle.arena_model.proofs.Slots.{few_slots}
 use Rattle.templates_q.proofs.Walks.{next_is, next_room, wanted_known, passed_more, passed_few}
 use Rattle.templates_q.proofs.walk.pass.Goals as goal
@@ -29,6 +28,3 @@ loop-x-preserved g c = (
   (λ q us vs first. let k = wanted_known c.args.wanted c.args.work.now c.loop-x.gap.next c.in-Some.x (sym c.in-Some.ensures) in
       passed_more c.args.wanted c.args.arena.now c.args.work.now q us vs c.loop-x.count c.loop-x.gap c.past-gap.result c.in-Some.x c.layout_law.ensures (c.loop-x.invariant.1 q us vs first) k.0 k.1 c.past-gap.ensures.passed),
 )
-
-pub returns-clause-stops : goal.returns-clause-stops
-returns-clause-stops g c = grind (arith, common_steps)
