@@ -1,4 +1,5 @@
 use Rattle.std.proofs.Common.{◌≡◌, ◌∙◌, ◌+◌, ◌-◌, ◌*◌, ℕ, List, [], Vec, Global, length, take, sym, ap, subst, arith}
+use Rattle.std.proofs.lemmas.Grind.{common_steps}
 use Rattle.std.specs.Vec.{with_items}
 use Rattle.std.proofs.lemmas.List.{with_items_is}
 use Rattle.std.proofs.lemmas.Option.{slice_get-get_or}
@@ -47,3 +48,6 @@ returns-clause-classes g c =
     let is : c.from_entries.result ≡ table c.flatten.new.parents =
     c.from_entries.ensures ∙ ap (λ n. record { columns = n; entries = (with_items c.loop-k.parents c.flatten.new.parents).items }) c.columns-columns.ensures.columns ∙ ap table kept in
     subst (TellsClasses m.columns (take rows m.rows)) (sym is) told
+
+pub from_entries-requires-clause-places : goal.from_entries-requires-clause-places
+from_entries-requires-clause-places g c = grind (arith, common_steps)

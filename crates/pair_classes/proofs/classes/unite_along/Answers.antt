@@ -1,4 +1,5 @@
 use Rattle.std.proofs.Common.{◌≡◌, ◌∙◌, ◌+◌, IsTrue, sym, subst, arith}
+use Rattle.std.proofs.lemmas.Grind.{common_steps}
 use Rattle.column_order.specs.Orders.{has}
 use Rattle.row_model.specs.Graph.{row_at}
 use Rattle.pair_classes.proofs.ClassLaws.{IsUnitingAlong, along_held, along_lacking}
@@ -29,3 +30,6 @@ returns-clause-labels g c =
     let end : c.loop-d.d ≡ c.args.m.now.columns = omega (arith, c.columns-d-end.ensures.columns, c.loop-d-test.false, c.loop-d.auto.d-end) in
     let all = subst (IsUnitingAlong c.args.m.now.columns c.args.k (row_at c.args.m.now.rows c.args.k) c.args.parents.now c.loop-d.parents) end c.loop-d.invariant.along in
     λ label u. all.labels label u
+
+pub returns-clause-ticks : goal.returns-clause-ticks
+returns-clause-ticks g c = grind (arith, common_steps)

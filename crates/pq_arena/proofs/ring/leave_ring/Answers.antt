@@ -1,4 +1,5 @@
-use Rattle.std.proofs.Common.{◌∙◌, refl}
+use Rattle.std.proofs.Common.{◌∙◌, refl, arith}
+use Rattle.std.proofs.lemmas.Grind.{common_steps}
 use Rattle.pq_arena.proofs.Sizes.{size_of_links, size_kept}
 use Rattle.pq_arena.proofs.ring.leave_ring.Goals as goal
 
@@ -23,3 +24,12 @@ returns-clause-links c = rw (c.set_head.ensures.links, c.set_link.ensures.links,
 pub returns-clause-heads : goal.returns-clause-heads
 returns-clause-heads c =
     rw (c.set_head.ensures.heads, c.set_link.ensures.heads, c.set_near1.ensures.heads, c.set_near0.ensures.heads, c.first_left-first.ensures, c.head_at-head.ensures, c.link_at-link.ensures) refl
+
+pub link_at-link-requires : goal.link_at-link-requires
+link_at-link-requires c = grind (arith, common_steps)
+
+pub head_at-head-requires : goal.head_at-head-requires
+head_at-head-requires c = grind (arith, common_steps)
+
+pub set_near0-requires : goal.set_near0-requires
+set_near0-requires c = grind (arith, common_steps)

@@ -1,4 +1,5 @@
 use Rattle.std.proofs.Common.{◌≡◌, ℕ, ◌<◌, ◌≤◌, ◌+◌, ◌++◌, ◌∷◌, [], ◌⊎◌, inl, inr, Option, reverse, List, length, set, sym, ap, subst, ◌∙◌, arith}
+use Rattle.std.proofs.lemmas.Grind.{common_steps}
 use Rattle.arena_model.specs.declared.TheConstants.{NODE_BOUND}
 use Rattle.std.proofs.lemmas.List.{length-map}
 use Rattle.pq_arena.specs.declared.node.NodeId.{NodeId}
@@ -97,3 +98,9 @@ pub returns-clause-behind : goal.returns-clause-behind
 returns-clause-behind g c = λ q us vs from near some. layout_by
     (record { nodes = c.set_head.new.nodes; root = c.self.inside.root; spare = c.args.child.index; count = c.self.inside.count + 1; columns = c.self.inside.columns })
     _ _ _ (links_after g c) (heads_after g c) (stands_back g c q us vs from near some)
+
+pub link_at-link-requires : goal.link_at-link-requires
+link_at-link-requires g c = grind (arith, common_steps)
+
+pub head_at-head-requires : goal.head_at-head-requires
+head_at-head-requires g c = grind (arith, common_steps)

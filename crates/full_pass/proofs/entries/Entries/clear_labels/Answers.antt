@@ -1,0 +1,9 @@
+use Rattle.std.proofs.Common.{arith}
+use Rattle.std.proofs.lemmas.Grind.{common_steps}
+use Rattle.full_pass.proofs.entries.Entries.clear_labels.Goals as goal
+
+pub returns-clause-length : goal.returns-clause-length
+returns-clause-length c = grind (arith, common_steps)
+
+pub returns-clause-label : goal.returns-clause-label
+returns-clause-label c = grind (arith, common_steps)

@@ -1,0 +1,9 @@
+use Rattle.std.proofs.Common.{arith}
+use Rattle.std.proofs.lemmas.Grind.{common_steps}
+use Rattle.pq_arena.proofs.run.join.Goals as goal
+
+pub link_at-requires : goal.link_at-requires
+link_at-requires c = grind (arith, common_steps)
+
+pub set_link-requires : goal.set_link-requires
+set_link-requires c = grind (arith, common_steps)
