@@ -1,16 +1,16 @@
-use Rattle.std.proofs.Common.{◌∙◌, List, ◌++◌, ap}
+use Rattle.std.proofs.Common.{refl, ◌∙◌, List, ◌++◌, ap}
 use Rattle.std.specs.Prelude.{codes}
 use Rattle.pq_tree.specs.PqTree.{column_count, outline}
 use Rattle.row_model.specs.declared.graph.Line.{Line}
 use Rattle.text_parts.specs.Text.{counted_cycle}
 use Rattle.commands.specs.Meetings.{meet_head}
 use Rattle.commands.proofs.Parts.{four_parts}
-use Rattle.commands.proofs.meeting.apart_text.Goals as goal
+use Rattle.commands.proofs.meeting.apart_reply.Goals as goal
 
 pub returns : goal.returns
 returns c =
     let lines : List Line = c.args.cycle.now in
-    record {
+    (refl, record {
       none = c.requires.none;
       lines = lines;
       cycle = c.requires.cycle;
@@ -21,4 +21,4 @@ returns c =
           c.new-text.ensures.items c.in_ok-print_head.ensures c.in_ok-extend_from_slice.ensures.items
           (c.in_ok-print_cycle.ensures.ok ∙ ap (λ (l : List Line). c.extend_from_slice.new.self.items ++ counted_cycle l) c.lines.ensures.lines)
           c.in_ok-extend_from_slice-2.ensures.items;
-    }
+    })

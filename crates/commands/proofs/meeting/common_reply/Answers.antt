@@ -1,4 +1,4 @@
-use Rattle.std.proofs.Common.{◌∙◌, ℕ, List, ◌++◌, ap, subst}
+use Rattle.std.proofs.Common.{refl, ◌∙◌, ℕ, List, ◌++◌, ap, subst}
 use Rattle.std.specs.Prelude.{codes}
 use Rattle.pq_tree.specs.Proper.{IsProper}
 use Rattle.pq_tree.specs.PqTree.{column_count, outline}
@@ -6,12 +6,12 @@ use Rattle.verdict_text.specs.Verdict.{SideValue}
 use Rattle.commands.specs.Meetings.{meet_head}
 use Rattle.verdict_text.specs.Text.{side_text}
 use Rattle.commands.proofs.Parts.{four_parts}
-use Rattle.commands.proofs.meeting.common_text.Goals as goal
+use Rattle.commands.proofs.meeting.common_reply.Goals as goal
 
 pub returns : goal.returns
 returns c =
     let side : SideValue = record { tree = outline c.args.tree.now; order = c.in_ok-order.order.items } in
-    record {
+    (refl, record {
       some = c.requires.some;
       side = side;
       shows = record {
@@ -26,4 +26,4 @@ returns c =
           c.in_ok-text.ensures.items c.in_ok-print_head.ensures c.in_ok-extend_from_slice.ensures.items
           (c.in_ok-print_side.ensures.ok ∙ ap (λ (o : List ℕ). c.extend_from_slice.new.self.items ++ side_text (record { tree = outline c.args.tree.now; order = o })) c.deref.ensures.value)
           c.in_ok-extend_from_slice-2.ensures.items;
-    }
+    })
