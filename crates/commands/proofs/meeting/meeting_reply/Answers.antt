@@ -1,5 +1,7 @@
-use Rattle.std.proofs.Common.{inl, inr}
+use Rattle.std.proofs.Common.{inl, inr, subst}
 use Rattle.std.proofs.lemmas.Result.{IfOk-weaker}
+use Rattle.pq_tree.specs.PqTree.{column_count, outline}
+use Rattle.tree_meet.specs.Meets.{IsMet}
 use Rattle.commands.proofs.meeting.meeting_reply.Goals as goal
 
 pub returns-in_err-tree-clause-asked : goal.returns-in_err-tree-clause-asked
@@ -31,3 +33,7 @@ returns-in-Apart-clause-reply g c = IfOk-weaker c.apart_reply.result _ _ (λ rep
 
 pub returns-in-Apart-clause-status : goal.returns-in-Apart-clause-status
 returns-in-Apart-clause-status g c = IfOk-weaker c.apart_reply.result _ _ (λ reply told. inr told.0) c.apart_reply.ensures
+
+pub common_reply-requires-clause-common : goal.common_reply-requires-clause-common
+common_reply-requires-clause-common g c =
+    (subst (IsMet (column_count c.args.first.now) (outline c.args.first.now) (outline c.args.second.now)) c.in-Tree.is c.in_ok-tree.ensures.met).0
