@@ -32,7 +32,7 @@ PROMISED = ("crates/reply_laws/specs/Promise.antt", "IsPromised")
 # The traits of the files and the streams that the call is handed.
 TRAITS = [("crates/pq_io/src/shelf.rt", "Shelf"), ("crates/pq_io/src/sink.rt", "Sink")]
 # The crates whose laws say what replies mean.
-LAWS = ["pq_cli", "one_text", "pq_c"]
+LAWS = ["pq_cli", "one_text", "memory_run"]
 # The call of the library.
 LIBRARY = ("crates/pq_c/src/call.rt", "pq_c_run")
 # The types whose cases tell the commands, the kinds of files and the instances apart.

@@ -122,7 +122,7 @@ TOLD = {
 }
 # The crates that reduce or search, and those that reach them by the solver alone.
 BEHIND_SOLVER = {"pq_arena", "bubble_pass", "templates_q", "full_pass", "templates_p", "row_reduce", "walk_search", "border_ways", "incompat_graph", "pq_plain"}
-BEFORE_SOLVER = ["solve_replies", "reply_laws", "pq_cli", "pq", "pq_gen", "pq_c"]
+BEFORE_SOLVER = ["solve_replies", "reply_laws", "pq_cli", "pq", "pq_gen", "memory_run", "pq_c"]
 PYTHON = ["end_to_end", "bench", "scripts"]
 CONTRACTS = os.path.join("docs", "CONTRACTS.md")
 PROMISES = os.path.join("docs", "PROMISES.md")

@@ -42,30 +42,24 @@ pub fn meeting_reply<J: Judge, L: Ledger>(
         steps.new ≤ steps.old + c.any (joint_matrix (column_count first.now) (outline first.now) (outline second.now))) }
 {
     match meet(alloc, judge, first, second, steps)? {
-        Met::Tree(tree) => {
-            let text = common_text(alloc, first, second, &tree)?;
-            Ok(Reply { status: 0, text })
-        }
-        Met::Apart(cycle) => {
-            let text = apart_text(alloc, first, second, &cycle)?;
-            Ok(Reply { status: 1, text })
-        }
+        Met::Tree(tree) => common_reply(alloc, first, second, &tree),
+        Met::Apart(cycle) => apart_reply(alloc, first, second, &cycle),
     }
 }
 
-// The text that tells the tree of the common frontiers, and an order.
-fn common_text(
+// The reply that tells the tree of the common frontiers, and an order.
+fn common_reply(
     alloc: Global,
     first: &PqTree,
     second: &PqTree,
     tree: &PqTree,
-) -> Result<Vec<u8>, NoMemory>
+) -> Result<Reply, NoMemory>
     requires same { column_count second.now ≡ column_count first.now }
     requires few { column_count first.now ≤ MAX_COLUMNS }
     requires common { IsMeet (column_count first.now) (outline first.now) (outline second.now) tree.now }
     requires some { (o : List ℕ) × IsCommon (outline first.now) (outline second.now) o }
-    ensures { IfOk result (λ text.
-        TellsCommon (column_count first.now) (outline first.now) (outline second.now) text.items) }
+    ensures { IfOk result (λ reply. (reply.status ≡ 0)
+        × TellsCommon (column_count first.now) (outline first.now) (outline second.now) reply.text.items) }
 {
     let order = tree.frontier(alloc)?;
     let mut text = Vec::with_capacity(alloc, 96 + 12 * tree.columns() as usize)?;
@@ -73,31 +67,31 @@ fn common_text(
     text.extend_from_slice(b"answer yes\n")?;
     print_side(tree, &order, &mut text)?;
     text.extend_from_slice(b"end\n")?;
-    Ok(text)
+    Ok(Reply { status: 0, text })
 }
 
-// The text that tells that no frontier is common, as an odd cycle shows.
-fn apart_text(
+// The reply that tells that no frontier is common, as an odd cycle shows.
+fn apart_reply(
     alloc: Global,
     first: &PqTree,
     second: &PqTree,
     cycle: &Cycle,
-) -> Result<Vec<u8>, NoMemory>
+) -> Result<Reply, NoMemory>
     requires same { column_count second.now ≡ column_count first.now }
     requires few { column_count first.now ≤ MAX_COLUMNS }
     requires cycle { IsOddCycle (column_count first.now)
         (joint_rows (column_count first.now) (outline first.now) (outline second.now)) cycle.now }
     requires short { IsShort (column_count first.now) cycle.now }
     requires none { (o : List ℕ) → IsCommon (outline first.now) (outline second.now) o → ⊥ }
-    ensures { IfOk result (λ text.
-        TellsApart (column_count first.now) (outline first.now) (outline second.now) text.items) }
+    ensures { IfOk result (λ reply. (reply.status ≡ 1)
+        × TellsApart (column_count first.now) (outline first.now) (outline second.now) reply.text.items) }
 {
     let mut text = Vec::new(alloc);
     print_head(alloc, first, second, &mut text)?;
     text.extend_from_slice(b"answer no\n")?;
     print_cycle(cycle.lines(), &mut text)?;
     text.extend_from_slice(b"end\n")?;
-    Ok(text)
+    Ok(Reply { status: 1, text })
 }
 
 // The first three lines.

@@ -3,9 +3,9 @@ ghost use Rattle.std.specs.Prelude.{◌≡◌, ◌≤◌, codes, drop, length, t
 ghost use Rattle.std.specs.Str.{IsUtf8};
 ghost use Rattle.std.specs.Str.Lines.{lines};
 ghost use Rattle.command_input.specs.Words.{command_of};
-ghost use Rattle.pq_c.specs.Called.{IsRunOf, IsShown};
+ghost use Rattle.memory_run.specs.Called.{IsRunOf, IsShown};
 
-use crate::over::run_bytes;
+use memory_run::run_in_memory;
 use std::alloc::Global;
 
 /// Does what the words ask for, as the program does, one word a line, over files of the names `1` and `2`. The reply
@@ -43,8 +43,5 @@ pub extern "C" fn pq_c_run(
     ensures run { IsUtf8 words.now → IsRunOf (command_of (lines words.now)) first.now second.now
         (length out.new) (length err.new) result (take written.new out.new) (take told.new err.new) }
 {
-    let left = run_bytes(alloc, words, first, second, out, err);
-    *written = left.written;
-    *told = left.told;
-    left.status
+    run_in_memory(alloc, words, first, second, out, written, err, told)
 }

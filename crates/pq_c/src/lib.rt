@@ -6,12 +6,6 @@
 #![tactic(auto)]
 
 mod call;
-mod files;
-mod handing;
-mod kept;
-mod laws;
-mod over;
-mod words;
 
 pub use call::pq_c_run;
-pub use laws::{agreed_law, complete_law};
+pub use memory_run::{agreed_law, complete_law};

@@ -1,5 +1,5 @@
 -- How a run was decided, by what the command gave and what was written.
-use Rattle.std.proofs.Common.{◌≡◌, ◌⊎◌, ℕ, ◌≤◌, List, Option, Some, IfSome, inl, inr, refl, sym, subst, arith}
+use Rattle.std.proofs.Common.{◌≡◌, ◌⊎◌, ℕ, ◌≤◌, List, Option, Some, None, IfSome, inl, inr, refl, sym, subst, arith}
 use Rattle.std.specs.Prelude.{◌↔◌, IfNone, IsNone, Result, Ok, Err, IfOk, IfErr, IsErrAnd}
 use Rattle.std.specs.Io.KnownBytes.{Appends}
 use Rattle.pq_io.specs.Faults.{Rose}
@@ -41,6 +41,27 @@ module _ {S T : Type 0} (content : S → List ℕ → Option (List ℕ)) (taken 
     pub unwritten : (run_status r ≡ 2) ⊎ (run_status r ≡ 3) ⊎ (run_status r ≡ 4) ⊎ (run_status r ≡ 6) → after ≡ out
     pub status : IfOk r (λ status. (status ≡ 0) ⊎ (status ≡ 1))
     pub line : IfErr r (λ f. IsLineOf found (taken_since (taken old) (taken new)) (failure_status f) (failure_line f))
+
+  -- the words are no command
+  pub outside_so : (found : Option Command) → None ≡ found → (old : S) (out : T) (s : ℕ) → Decides found old old out out s s (Err failure.Words)
+  outside_so found is old out s = subst (λ found. Decides found old old out out s s (Err failure.Words)) is (record {
+    idle = refl;
+    steps = tt;
+    words = (λ _. refl, λ _. refl);
+    unread = refl;
+    files = tt;
+    output = tt;
+    write_fault = record { later = omega arith; fault = λ e. absurd (omega (arith, e)); nowhere_else = λ d. absurd (d refl) };
+    unwritten = λ e. refl;
+    status = tt;
+    line = record {
+      words = λ e. refl;
+      refused = λ e. absurd (omega (arith, e));
+      read_fault = λ e. absurd (omega (arith, e));
+      write_fault = λ e. absurd (omega (arith, e));
+      no_memory = λ e. absurd (omega (arith, e));
+    };
+  })
 
   module _ (found : Option Command) (c : Command) (is : Some c ≡ found) (old new : S) (out after : T) (s n : ℕ) where
     by_command : (r : Result ℕ Failure) → Decides (Some c) old new out after s n r → Decides found old new out after s n r

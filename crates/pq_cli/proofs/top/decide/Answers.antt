@@ -3,8 +3,13 @@ use Rattle.std.specs.Io.KnownBytes.{Appends}
 use Rattle.pq_io.specs.Sink.{AppendsPrefix}
 use Rattle.command_input.specs.Words.{texts, command_of}
 use Rattle.command_input.specs.Task.{command_seen}
-use Rattle.pq_cli.proofs.Decided.{stopped_so, written_so, cut_short_so}
+use Rattle.pq_cli.proofs.Decided.{outside_so, stopped_so, written_so, cut_short_so}
 use Rattle.pq_cli.proofs.top.decide.Goals as goal
+
+pub returns-in_default : goal.returns-in_default
+returns-in_default g c =
+    let d = outside_so g.F.Shelf.content g.F.Shelf.taken g.F.Shelf.faults g.O.Sink.written g.O.Sink.faults (command_of (texts c.args.words.now)) c.in_default.ensures.task c.args.files.now c.args.out.now c.args.steps.now in
+    record { idle = d.idle; steps = d.steps; words = d.words; unread = d.unread; files = d.files; output = d.output; write_fault = d.write_fault; unwritten = d.unwritten; status = d.status; line = d.line }
 
 pub returns-in_err-reply : goal.returns-in_err-reply
 returns-in_err-reply g c =

@@ -1,6 +1,0 @@
-use Rattle.std.proofs.Common.{◌≡◌, map, take}
-use Rattle.command_input.specs.Words.{texts}
-use Rattle.pq_c.proofs.words.owned.Given as goal
-
-abbrev pub invariant-loop-part : goal.invariant-loop-part
-invariant-loop-part l = texts l.words.items ≡ map (λ part. part.now) (take l.part-index l.parts)
