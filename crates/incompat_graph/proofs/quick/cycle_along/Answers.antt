@@ -18,3 +18,15 @@ pub returns-clause-cycle : goal.returns-clause-cycle
 returns-clause-cycle g c =
     let more = closed_more c.args.m.now.columns c.args.m.now.rows c.args.k in
     IfOk-weaker c.shorter_cycle.result _ _ (λ found x. record { closed = more found c.requires.row.1 x.closed; simple = x.simple }) c.shorter_cycle.ensures.cycle
+
+pub returns-clause-first_rows : goal.returns-clause-first_rows
+returns-clause-first_rows g c = c.shorter_cycle.ensures.cycle
+
+pub returns-clause-short : goal.returns-clause-short
+returns-clause-short g c = c.shorter_cycle.ensures.short c.in_ok-cycle.ensures.short
+
+pub any_cycle-requires : goal.any_cycle-requires
+any_cycle-requires g c = record { row = c.requires.row; order = c.requires.order; refused = c.requires.refused; most = c.most_steps-most.ensures.ones }
+
+pub shorter_cycle-requires : goal.shorter_cycle-requires
+shorter_cycle-requires g c = record { rows = c.requires.row.1; cycle = c.in_ok-cycle.ensures.cycle }

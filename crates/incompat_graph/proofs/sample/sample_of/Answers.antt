@@ -1,5 +1,12 @@
 use Rattle.std.proofs.Common.{arith}
+use Rattle.std.proofs.lemmas.Result.{IfOk-weaker}
 use Rattle.incompat_graph.proofs.sample.sample_of.Goals as goal
+
+pub loop-i-init : goal.loop-i-init
+loop-i-init g c = omega arith
+
+pub has_counted-has-requires : goal.has_counted-has-requires
+has_counted-has-requires g c = c.requires
 
 pub loop-i-preserved : goal.loop-i-preserved
 loop-i-preserved g c = omega (arith, c.loop-i.invariant, c.has_counted-has.ensures.ticks)
@@ -12,3 +19,6 @@ returns-clause-ticks g c = omega (arith, c.loop-i.invariant, c.loop-i.auto.i-end
 
 pub returns-clause-few : goal.returns-clause-few
 returns-clause-few g c = c.into_sample.ensures.few
+
+pub returns-clause-turns : goal.returns-clause-turns
+returns-clause-turns g c = IfOk-weaker c.into_sample.result _ _ (λ sample few. omega (arith, c.loop-i.invariant, c.loop-i-test.false)) c.into_sample.ensures.few
