@@ -10,7 +10,7 @@ UNTICKED = {
     "open_gaps": {"cover": 1, "of_parts": 1, "gaps_of_all": 4, "gaps_of": 3, "take_row": 1, "new": 1, "of_rows": 1, "span_in_order": 1},
     "walk_search": {"way_down": 2, "add_way_up": 1, "closed_walk": 2, "rows_by_column k": 1, "joined": 1, "simple_cycle": 1, "new": 1, "search": 3, "search_along": 2},
     "border_ways": {
-        "walk_around": 3, "add_forth": 1, "add_back": 1, "columns_near": 2, "openers": 2, "odd_links": 4, "closed_at_once": 1, "is_known": 1,
+        "walk_around": 3, "add_forth": 1, "add_back": 1, "columns_near": 2, "openers": 2, "odd_links": 3, "ended_there": 1,
         "odd_circle": 4, "circle_by": 4, "first_left": 2, "place_among": 1, "spread": 3, "path_up": 1, "add_lines": 1, "settle": 4, "add_spread": 1,
     },
     "incompat_graph": {

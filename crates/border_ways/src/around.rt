@@ -36,8 +36,7 @@ pub fn walk_around<L: Ledger>(
         add_forth(&one, &mut lines)?;
         add_back(&other, k, &mut lines)?;
     }
-    close(&mut lines)?;
-    Ok(lines)
+    closed(lines)
 }
 
 // Adds the lines along a way, but for the pair at which it ends.
@@ -83,20 +82,20 @@ fn add_line(lines: &mut Vec<Line>, pair: Pair, why: Why) -> Result<(), NoMemory>
     Ok(())
 }
 
-// Closes the walk by a flip, unless it is closed: the last row led to the first pair, or to that pair turned.
-fn close(lines: &mut Vec<Line>) -> Result<(), NoMemory>
-    ensures few { OnOk result (length lines.new.items ≤ length lines.old.items + 1) }
+// The walk, closed by a flip unless it is closed: the last row led to the first pair, or to that pair turned.
+fn closed(mut lines: Vec<Line>) -> Result<Vec<Line>, NoMemory>
+    ensures few { IfOk result (λ closed. length closed.items ≤ length lines.items + 1) }
 {
     let Some(first) = lines.first().copied() else {
-        return Ok(());
+        return Ok(lines);
     };
-    add_line(lines, first.pair, Why::Flip)?;
+    add_line(&mut lines, first.pair, Why::Flip)?;
     if let Some(last) = lines.last().copied()
         && last.pair == first.pair
     {
         lines.pop();
     }
-    Ok(())
+    Ok(lines)
 }
 
 // Of a pair and the pair turned the one that a row can join to `v`, or `v` itself where the columns are the same.

@@ -19,16 +19,6 @@ pub struct Link {
     pub other: Pair,
 }
 
-impl Link {
-    // The link from the other pair to the one.
-    fn turned(self) -> Self {
-        Link {
-            one: self.other,
-            other: self.one,
-        }
-    }
-}
-
 // Where the way from a column that the row has and a pivot, a column that it lacks, begins and ends.
 #[derive(Clone, Copy)]
 struct Course {
@@ -82,11 +72,17 @@ pub fn odd_links<L: Ledger>(
     for pivot in &sample.pivots {
         for member in &sample.members {
             let way = way_of(front, *pivot, *member, left, steps);
-            if let Some(link) = closed_at_once(&ways, way) {
-                return Ok(vec![in alloc; link]?);
-            }
-            if !is_known(&ways, way) {
-                ways.push(way)?;
+            match ended_there(&ways, way) {
+                None => ways.push(way)?,
+                Some(other) => {
+                    if other.turned != way.turned {
+                        let link = Link {
+                            one: other.begin,
+                            other: way.begin,
+                        };
+                        return Ok(vec![in alloc; link]?);
+                    }
+                }
             }
         }
     }
@@ -125,31 +121,17 @@ fn way_of<L: Ledger>(
     }
 }
 
-// The link with an earlier way of the same pivot that closes an odd circle.
-fn closed_at_once(ways: &[Course], way: Course) -> Option<Link>
-    requires few { length ways.now ≤ 1024 }
-{
-    for other in ways {
-        if other.pivot == way.pivot && other.end == way.end && other.turned != way.turned {
-            return Some(Link {
-                one: other.begin,
-                other: way.begin,
-            });
-        }
-    }
-    None
-}
-
-// Whether an earlier way of the same pivot ends at the same pair.
-fn is_known(ways: &[Course], way: Course) -> bool
+// The first way of the same pivot that ends at the same pair. By a link of the two an odd circle closes where the one
+// has its pivot first and the other second.
+fn ended_there(ways: &[Course], way: Course) -> Option<Course>
     requires few { length ways.now ≤ 1024 }
 {
     for other in ways {
         if other.pivot == way.pivot && other.end == way.end {
-            return true;
+            return Some(*other);
         }
     }
-    false
+    None
 }
 
 // Reaches each pivot from another by links, as far as they go, and gives the links that close an odd circle if there is
@@ -182,7 +164,10 @@ fn circle_by(alloc: Global, reached: &[Reached], odd: OddLink) -> Result<Vec<Lin
     links.reverse();
     links.push(odd.link)?;
     for link in &path_up(alloc, reached, odd.other)? {
-        links.push(link.turned())?;
+        links.push(Link {
+            one: link.other,
+            other: link.one,
+        })?;
     }
     Ok(links)
 }

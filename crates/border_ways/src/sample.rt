@@ -9,7 +9,6 @@ use step_count::{Ledger, Steps};
 const MOST: usize = 16;
 
 /// Columns that a row has and columns that it lacks, and where in the order the one kind follows the other.
-#[derive(Drop)]
 pub struct Sample {
     /// Columns that the row has.
     pub members: Vec<u32>,
@@ -17,6 +16,17 @@ pub struct Sample {
     pub pivots: Vec<u32>,
     /// The positions, from 0, of all columns that stand behind one of the other kind.
     pub borders: Vec<usize>,
+}
+
+// By hand, so that a place where it is dropped proves one call and does not take its lists apart.
+impl Drop for Sample {
+    fn drop(self) {
+        let Sample {
+            members: _members,
+            pivots: _pivots,
+            borders: _borders,
+        } = self;
+    }
 }
 
 // Columns of one kind, in their order: all, and those that stand beside one of the other kind.
@@ -27,11 +37,78 @@ struct SampleColumns {
 }
 
 // The columns of an order by their kinds, and where the one kind follows the other.
-#[derive(Drop)]
 struct Kinds {
     members: SampleColumns,
     pivots: SampleColumns,
     borders: Vec<usize>,
+}
+
+// By hand, as that of a sample.
+impl Drop for Kinds {
+    fn drop(self) {
+        let Kinds {
+            members: _members,
+            pivots: _pivots,
+            borders: _borders,
+        } = self;
+    }
+}
+
+impl Kinds {
+    // Adds a column that the row has or lacks, and a border where the column before it is of the other kind.
+    fn add(
+        &mut self,
+        place: usize,
+        column: u32,
+        has: bool,
+        before: Option<(u32, bool)>,
+    ) -> Result<(), NoMemory> {
+        self.add_column(column, has)?;
+        match before {
+            Some((last, had)) if had != has => {
+                let (member, pivot) = if has { (column, last) } else { (last, column) };
+                self.add_border(place, member, pivot)
+            }
+            _ => Ok(()),
+        }
+    }
+
+    // Adds a column that the row has or lacks.
+    fn add_column(&mut self, column: u32, has: bool) -> Result<(), NoMemory> {
+        let kind = if has {
+            &mut self.members
+        } else {
+            &mut self.pivots
+        };
+        kind.all.push(column)?;
+        Ok(())
+    }
+
+    // Adds a place where a column that the row has and one that it lacks stand side by side.
+    fn add_border(&mut self, place: usize, member: u32, pivot: u32) -> Result<(), NoMemory> {
+        self.members.ends.push(member)?;
+        self.pivots.ends.push(pivot)?;
+        self.borders.push(place)?;
+        Ok(())
+    }
+
+    // A few columns of each kind.
+    fn into_sample(self, alloc: Global) -> Result<Sample, NoMemory>
+        ensures few { IfOk result (λ sample. (length sample.members.items ≤ 32) × (length sample.pivots.items ≤ 32)) }
+    {
+        let few_members = thinned(alloc, &self.members)?;
+        let few_pivots = thinned(alloc, &self.pivots)?;
+        let Kinds {
+            members: _members,
+            pivots: _pivots,
+            borders,
+        } = self;
+        Ok(Sample {
+            members: few_members,
+            pivots: few_pivots,
+            borders,
+        })
+    }
 }
 
 /// The sample of row `k` in an order: up to 16 columns of each kind that stand beside one of the other kind, and 16
@@ -60,51 +137,10 @@ pub fn sample_of<L: Ledger>(
     let mut before: Option<(u32, bool)> = None;
     for (i, column) in order.iter().enumerate() {
         let has = m.has_counted(k, *column, steps);
-        add_column(&mut kinds, *column, has)?;
-        if let Some((last, had)) = before
-            && had != has
-        {
-            let (member, pivot) = if has {
-                (*column, last)
-            } else {
-                (last, *column)
-            };
-            add_border(&mut kinds, i, member, pivot)?;
-        }
+        kinds.add(i, *column, has, before)?;
         before = Some((*column, has));
     }
-    sample_from(alloc, kinds)
-}
-
-// Adds a column that the row has or lacks.
-fn add_column(kinds: &mut Kinds, column: u32, has: bool) -> Result<(), NoMemory> {
-    if has {
-        kinds.members.all.push(column)?;
-    } else {
-        kinds.pivots.all.push(column)?;
-    }
-    Ok(())
-}
-
-// Adds a place where a column that the row has and one that it lacks stand side by side.
-fn add_border(kinds: &mut Kinds, place: usize, member: u32, pivot: u32) -> Result<(), NoMemory> {
-    kinds.members.ends.push(member)?;
-    kinds.pivots.ends.push(pivot)?;
-    kinds.borders.push(place)?;
-    Ok(())
-}
-
-// A few columns of each kind.
-fn sample_from(alloc: Global, kinds: Kinds) -> Result<Sample, NoMemory>
-    ensures few { IfOk result (λ sample. (length sample.members.items ≤ 32) × (length sample.pivots.items ≤ 32)) }
-{
-    let members = thinned(alloc, &kinds.members)?;
-    let pivots = thinned(alloc, &kinds.pivots)?;
-    Ok(Sample {
-        members,
-        pivots,
-        borders: kinds.borders,
-    })
+    kinds.into_sample(alloc)
 }
 
 // No columns of a kind.

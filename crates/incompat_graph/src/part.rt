@@ -165,10 +165,9 @@ fn part_of<L: Ledger>(
     let mut part = CountedMatrix::new(alloc, columns.len() as u32)?;
     for k in rows {
         if 1 <= *k && *k <= m.rows() {
-            let Some(rest) = left.checked_sub(columns.len() as u64) else {
+            if !take_from(left, columns.len() as u64) {
                 return Ok(part);
-            };
-            *left = rest;
+            }
             let row = row_of(alloc, m, *k, columns, steps)?;
             part.push_row(&row)?;
         }

@@ -73,8 +73,7 @@ fn cycle_along<L: Ledger>(
 {
     let most = most_steps(m, k, steps);
     let cycle = any_cycle(alloc, m, k, order, most, steps)?;
-    let found = shorter_cycle(alloc, m, k, cycle, 4 * most, steps)?;
-    Ok(found)
+    shorter_cycle(alloc, m, k, cycle, 4 * most, steps)
 }
 
 // An odd cycle, from an attempt in at most twice so many steps, and from a search where that finds none. It leaves room in

@@ -20,8 +20,7 @@ pub fn without_repeats(alloc: Global, lines: &[Line]) -> Result<Vec<Line>, NoMem
         } else if let Ok(number) = columns.binary_search(&lesser_first(v))
             && number < places.len()
         {
-            let keep = place_on(&path, places[number], v);
-            let back = stands_turned(&path, keep, v);
+            let (keep, back) = place_on(&path, places[number], v);
             if ((path.len() - keep) % 2 == 1) != back {
                 let part = path.split_off(keep)?;
                 return closed(part, v, back);
@@ -42,21 +41,14 @@ pub fn without_repeats(alloc: Global, lines: &[Line]) -> Result<Vec<Line>, NoMem
     closed(path, end, turned)
 }
 
-// The place, where the path has the two columns there, and else the length of the path.
-fn place_on(path: &[Line], place: usize, v: Pair) -> usize
-    ensures { result ≤ length path.now }
+// The place, and whether the pair stands there turned, where the path has the two columns there; else the length of the
+// path.
+fn place_on(path: &[Line], place: usize, v: Pair) -> (usize, bool)
+    ensures { result.0 ≤ length path.now }
 {
     match path.get(place) {
-        Some(line) if lesser_first(line.pair) == lesser_first(v) => place,
-        _ => path.len(),
-    }
-}
-
-// Whether the path has the pair turned at this place.
-fn stands_turned(path: &[Line], place: usize, v: Pair) -> bool {
-    match path.get(place) {
-        Some(line) => line.pair != v,
-        None => false,
+        Some(line) if lesser_first(line.pair) == lesser_first(v) => (place, line.pair != v),
+        _ => (path.len(), false),
     }
 }
 

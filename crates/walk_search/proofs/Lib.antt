@@ -13,3 +13,4 @@ pub mod ClosingLaws
 pub mod EndLaws
 pub mod NearLaws
 pub mod OddCycles
+pub mod TurnBounds

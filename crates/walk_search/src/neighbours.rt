@@ -84,10 +84,7 @@ pub fn leave(
     }
     match gaps {
         None => Ok(None),
-        Some(gaps) => {
-            let found = cross(gaps, forest, from)?;
-            Ok(found)
-        }
+        Some(gaps) => cross(gaps, forest, from),
     }
 }
 
@@ -106,8 +103,7 @@ fn cross(gaps: &OpenGaps, forest: &mut Forest, from: u32) -> Result<Option<Confl
     if let Some(conflict) = step_to(forest, from, gaps.before(pair))? {
         return Ok(Some(conflict));
     }
-    let found = step_to(forest, from, gaps.behind(pair))?;
-    Ok(found)
+    step_to(forest, from, gaps.behind(pair))
 }
 
 // Reaches the pair of the line, if there is one.
@@ -124,9 +120,6 @@ fn step_to(forest: &mut Forest, from: u32, line: Option<Line>) -> Result<Option<
 {
     match line {
         None => Ok(None),
-        Some(line) => {
-            let found = forest.step(from, line)?;
-            Ok(found)
-        }
+        Some(line) => forest.step(from, line),
     }
 }

@@ -92,8 +92,7 @@ pub fn walk_among<L: Ledger>(
         gaps: None,
         holders,
     };
-    let found = search(alloc, m, &near, rows, steps)?;
-    Ok(found)
+    search(alloc, m, &near, rows, steps)
 }
 
 /// A closed walk of odd length in the graph of the rows 1 to `k`, which have one, across the gaps that the rows before

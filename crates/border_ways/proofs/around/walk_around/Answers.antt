@@ -1,4 +1,5 @@
 use Rattle.std.proofs.Common.{◌∙◌, length, ap, arith}
+use Rattle.std.proofs.lemmas.Result.{IfOk-weaker}
 use Rattle.border_ways.proofs.around.walk_around.Goals as goal
 
 pub loop-link-preserved : goal.loop-link-preserved
@@ -19,7 +20,7 @@ loop-link-preserved g c = record {
 pub returns : goal.returns
 returns g c = record {
   ticks = c.loop-link.invariant.ticks;
-  turns = omega (arith, c.in_ok-close.ensures.few, c.loop-link.invariant.turns, c.loop-link.auto.link-index-end);
+  turns = IfOk-weaker c.closed.result _ _ (λ lines few. omega (arith, few, c.loop-link.invariant.turns, c.loop-link.auto.link-index-end)) c.closed.ensures.few;
 }
 
 pub returns-in_err-one-clause-ticks : goal.returns-in_err-one-clause-ticks
@@ -33,6 +34,3 @@ returns-in_err-add_forth-clause-ticks g c = c.way_from-in-loop-link.ensures.tick
 
 pub returns-in_err-add_back-clause-ticks : goal.returns-in_err-add_back-clause-ticks
 returns-in_err-add_back-clause-ticks g c = c.way_from-in-loop-link.ensures.ticks ∙ (c.way_from.ensures.ticks ∙ c.loop-link.invariant.ticks)
-
-pub returns-in_err-close-clause-ticks : goal.returns-in_err-close-clause-ticks
-returns-in_err-close-clause-ticks g c = c.loop-link.invariant.ticks

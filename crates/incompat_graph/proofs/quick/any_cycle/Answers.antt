@@ -69,3 +69,24 @@ returns-clause-cycle g c =
 
 pub returns-clause-short : goal.returns-clause-short
 returns-clause-short g c = subst (λ (n : ℕ). IfOk c.short_cycle.result (IsShort n)) c.columns.ensures.columns c.short_cycle.ensures.short
+
+pub returns-in-Some-clause-cycle : goal.returns-in-Some-clause-cycle
+returns-in-Some-clause-cycle g c = rw c.in-Some.is at c.in_ok-cycle.ensures.found
+
+pub returns-in-Some-clause-short : goal.returns-in-Some-clause-short
+returns-in-Some-clause-short g c = rw c.in-Some.is at c.in_ok-cycle.ensures.short
+
+pub quick_cycle-requires-clause-row : goal.quick_cycle-requires-clause-row
+quick_cycle-requires-clause-row g c = c.requires.row
+
+pub quick_cycle-requires-clause-order : goal.quick_cycle-requires-clause-order
+quick_cycle-requires-clause-order g c = c.requires.order
+
+pub walk_across-requires-clause-row : goal.walk_across-requires-clause-row
+walk_across-requires-clause-row g c = c.requires.row
+
+pub walk_across-requires-clause-refused : goal.walk_across-requires-clause-refused
+walk_across-requires-clause-refused g c = c.requires.refused
+
+pub short_cycle-requires-clause-few : goal.short_cycle-requires-clause-few
+short_cycle-requires-clause-few g c = c.columns.ensures.range.1

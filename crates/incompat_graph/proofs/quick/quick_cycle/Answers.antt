@@ -48,3 +48,9 @@ returns-clause-short g c = c.far_cycle.ensures.short
 
 pub returns-in_default : goal.returns-in_default
 returns-in_default g c = record { found = tt; short = tt; ticks = omega arith }
+
+pub returns-in-Some-2-clause-found : goal.returns-in-Some-2-clause-found
+returns-in-Some-2-clause-found g c = rw c.in-Some-2.is at c.in_ok-cycle.ensures.found
+
+pub returns-in-Some-2-clause-short : goal.returns-in-Some-2-clause-short
+returns-in-Some-2-clause-short g c = rw c.in-Some-2.is at c.in_ok-cycle.ensures.short

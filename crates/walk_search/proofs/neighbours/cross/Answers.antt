@@ -1,5 +1,6 @@
 use Rattle.std.proofs.Common.{◌≡◌, ◌∙◌, ◌≤◌, Some, length, slice_get, refl, sym, subst, arith}
 use Rattle.std.proofs.lemmas.Option.{slice_get_read}
+use Rattle.std.proofs.lemmas.Result.{IfOk-weaker}
 use Rattle.row_model.specs.Graph.{IsPair}
 use Rattle.walk_search.specs.declared.forest.Node.{Node}
 use Rattle.pair_classes.proofs.Items.{none_of}
@@ -42,5 +43,6 @@ returns c n front rows h within gaps more =
     let now : slice_get g.nodes.items c.args.from ≡ Some node = grown_there n rows f g c.args.from node first.0 there in
     let joined' = line_from (length c.args.gaps.now.order) n front rows g c.args.from node c.behind.result (c.requires.columns ∙ h.columns) more now (c.behind.ensures.joined front gaps) in
     let within' : g.root ≤ c.args.from = omega (arith, within, first.0.root) in
-    let second = c.in_ok-found.ensures.stepped n rows first.0.is_forest within' joined' in
-    crossed_found n front rows f c.args.from node there c.args.gaps.now.order g c.step_to-2.new.forest c.before-2.result c.behind.result c.in_ok-found.found (c.before-2.ensures.whole front gaps) (c.behind.ensures.whole front gaps) first second
+    IfOk-weaker c.step_to-2.result _ _
+    (λ found. crossed_found n front rows f c.args.from node there c.args.gaps.now.order g c.step_to-2.new.forest c.before-2.result c.behind.result found (c.before-2.ensures.whole front gaps) (c.behind.ensures.whole front gaps) first)
+    (c.step_to-2.ensures.stepped n rows first.0.is_forest within' joined')

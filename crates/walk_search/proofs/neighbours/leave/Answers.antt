@@ -1,5 +1,6 @@
 use Rattle.std.proofs.Common.{◌≡◌, ◌≤◌, Some, length, slice_get, refl, arith}
 use Rattle.std.proofs.lemmas.Option.{slice_get_read}
+use Rattle.std.proofs.lemmas.Result.{IfOk-weaker}
 use Rattle.walk_search.specs.declared.forest.Node.{Node}
 use Rattle.pair_classes.proofs.Items.{none_of}
 use Rattle.walk_search.proofs.LeavingLaws.{flips, left_none, left_found}
@@ -24,8 +25,8 @@ returns-in-None c n front rows h within gaps more =
     let first = rw none at (c.in_ok-conflict.ensures.stepped n rows h within (flips n front rows f c.args.from node there h)) in
     left_none n front rows f c.args.from node there c.step.new.self c.args.gaps.now c.in-None.is first
 
-pub returns-in_ok-found-in-Some-gaps : goal.returns-in_ok-found-in-Some-gaps
-returns-in_ok-found-in-Some-gaps c n front rows h within gaps more =
+pub returns-in-Some-gaps : goal.returns-in-Some-gaps
+returns-in-Some-gaps c n front rows h within gaps more =
     let f = c.args.forest.now in
     let node : Node = c.index.result.now in
     let there : slice_get f.nodes.items c.args.from ≡ Some node = slice_get_read f.nodes.items (length f.nodes.items) c.args.from node refl c.requires.from c.index.ensures in
@@ -33,5 +34,6 @@ returns-in_ok-found-in-Some-gaps c n front rows h within gaps more =
     let first = rw none at (c.in_ok-conflict.ensures.stepped n rows h within (flips n front rows f c.args.from node there h)) in
     let g = c.step.new.self in
     let within' : g.root ≤ c.args.from = omega (arith, within, first.grown.root) in
-    let second = c.in_ok-found-in-Some-gaps.ensures n front rows first.grown.is_forest within' (gaps c.in-Some-gaps.gaps c.in-Some-gaps.is) more in
-    left_found n front rows f c.args.from node there g c.cross.new.forest c.args.gaps.now c.in-Some-gaps.gaps c.in_ok-found-in-Some-gaps.found c.in-Some-gaps.is first second
+    IfOk-weaker c.cross.result _ _
+    (λ found. left_found n front rows f c.args.from node there g c.cross.new.forest c.args.gaps.now c.in-Some-gaps.gaps found c.in-Some-gaps.is first)
+    (c.cross.ensures n front rows first.grown.is_forest within' (gaps c.in-Some-gaps.gaps c.in-Some-gaps.is) more)

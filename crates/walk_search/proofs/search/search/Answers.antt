@@ -11,6 +11,7 @@ use Rattle.pair_classes.proofs.Items.{none_of}
 use Rattle.walk_search.proofs.EndLaws.{IsSearched, searched_none, searched_idle, searched_again, searched_more, searched_all}
 use Rattle.walk_search.proofs.NearLaws.{bounded, squared, fewer}
 use Rattle.walk_search.proofs.WeightLaws.{tried_more, tried_part, all_most}
+use Rattle.walk_search.proofs.TurnBounds.{idle_ticks, idle_square, grown_ticks, grown_square, all_ticks, all_square, end_ticks, end_square}
 use Rattle.walk_search.proofs.search.search.Given as given
 use Rattle.walk_search.proofs.search.search.Goals as goal
 use Rattle.walk_search.proofs.search.search.Goals.{After-grow_from_column}
@@ -34,9 +35,6 @@ less turn = omega arith
 
 no_turn : (turn : ℕ) (P : Type 0) → turn + 1 ≡ 0 → P
 no_turn turn P e = absurd (omega (arith, e))
-
-one_more : (turn columns : ℕ) → (turn + 1) * columns ≡ turn * columns + columns
-one_more turn columns = grind arith
 
 pub loop-turn-init : goal.loop-turn-init
 loop-turn-init g c =
@@ -97,8 +95,8 @@ loop-turn-preserved-then-not-can_join g c =
       searched = next;
       first = λ e. no_turn turn _ e;
       turns = omega (arith, c.loop-turn.invariant.turns, c.tick.ensures);
-      ticks = omega (arith, c.loop-turn.invariant.ticks, c.tick.ensures, tried_part (weight m near) m.columns (turn - 1) (turn + 1 - 1) (less turn));
-      square = omega (arith, c.loop-turn.invariant.square, c.tick.ensures, one_more turn m.columns);
+      ticks = idle_ticks _ _ _ _ _ _ _ _ _ c.loop-turn.invariant.ticks c.tick.ensures (tried_part (weight m near) m.columns (turn - 1) (turn + 1 - 1) (less turn));
+      square = idle_square _ _ _ _ _ _ _ c.loop-turn.invariant.square c.tick.ensures;
     }
 
 pub grow_from_column-requires-clause-near : goal.grow_from_column-requires-clause-near
@@ -134,14 +132,14 @@ module _ (g : given.Over) (c : After-grow_from_column g) where
       + marked_ones (drop c.args.near.now.first c.args.m.now.rows) c.grow_from_column.new.marks + most_weight c.args.m.now c.args.near.now
   in_all =
       let part = tried_part (weight c.args.m.now c.args.near.now) c.args.m.now.columns (c.loop-turn.turn + 1 - 1) c.args.m.now.columns (omega (arith, c.loop-turn-test.true, c.columns-columns.ensures.columns)) in
-      omega (arith, tried, part, c.tick.ensures, c.grow_from_column.ensures.ticks, c.loop-turn-test.true, c.columns-columns.ensures.columns)
+      all_ticks _ _ _ _ _ _ _ _ _ _ _ _ tried c.tick.ensures c.grow_from_column.ensures.ticks part (omega (arith, c.loop-turn-test.true, c.columns-columns.ensures.columns))
 
   pub in_square : c.grow_from_column.new.steps
       ≤ c.args.steps.now + (c.args.m.now.columns + 1) + (c.args.m.now.columns * c.args.m.now.columns + c.args.m.now.columns) + marked_ones (drop c.args.near.now.first c.args.m.now.rows) c.grow_from_column.new.marks
       + most_weight c.args.m.now c.args.near.now
   in_square =
       let few : c.loop-turn.turn * c.args.m.now.columns ≤ c.args.m.now.columns * c.args.m.now.columns = mul-le c.loop-turn.turn c.args.m.now.columns c.args.m.now.columns c.args.m.now.columns (omega (arith, c.loop-turn-test.true, c.columns-columns.ensures.columns)) (omega arith) in
-      omega (arith, few, c.loop-turn.invariant.square, c.tick.ensures, c.grow_from_column.ensures.ticks, c.loop-turn-test.true, c.columns-columns.ensures.columns)
+      all_square _ _ _ _ _ _ _ _ _ _ c.loop-turn.invariant.square c.tick.ensures c.grow_from_column.ensures.ticks (omega (arith, c.loop-turn-test.true, c.columns-columns.ensures.columns)) few
 
 -- the same after a turn in which trees were grown
 module _ (g : given.Over) (c : After-grow_from_column g) where
@@ -183,8 +181,8 @@ loop-turn-preserved g c =
       searched = next;
       first = λ e. no_turn turn _ e;
       turns = omega (arith, c.loop-turn.invariant.turns, c.tick.ensures, c.in_ok-conflict.ensures.costs);
-      ticks = omega (arith, tried g (goal.at.loop-turn-preserved g c).After-grow_from_column, c.tick.ensures, spent);
-      square = omega (arith, c.loop-turn.invariant.square, c.tick.ensures, one_more turn m.columns, spent);
+      ticks = grown_ticks _ _ _ _ _ _ _ _ _ _ _ (tried g (goal.at.loop-turn-preserved g c).After-grow_from_column) c.tick.ensures spent;
+      square = grown_square _ _ _ _ _ _ _ _ _ _ c.loop-turn.invariant.square c.tick.ensures spent;
     }
 
 pub returns-in-Some-clause-found : goal.returns-in-Some-clause-found
@@ -230,16 +228,15 @@ returns-clause-ticks g c =
     let range = c.columns-columns.ensures in
     let part = tried_part (weight c.args.m.now c.args.near.now) c.args.m.now.columns (c.loop-turn.turn - 1) c.args.m.now.columns (omega (arith, c.loop-turn.auto.turn-end, range.columns)) in
     bounded c.args.m.now c.args.near.now c.args.further c.requires.near c.requires.rows (omega (arith, range.range.0, range.columns)) c.loop-turn.marks x.count x.search.columns c.args.steps.now c.loop-turn.steps
-    (omega (arith, c.loop-turn.invariant.ticks, all_most c.args.m.now c.args.near.now (take (c.args.near.now.first + c.loop-turn.marks.rows) c.args.m.now.rows) c.loop-turn.forest x.search.is_forest, part, c.loop-turn.auto.turn-end, range.columns))
+    (end_ticks _ _ _ _ _ _ _ _ _ c.loop-turn.invariant.ticks (all_most c.args.m.now c.args.near.now (take (c.args.near.now.first + c.loop-turn.marks.rows) c.args.m.now.rows) c.loop-turn.forest x.search.is_forest) part (omega (arith, c.loop-turn.auto.turn-end, range.columns)))
 
 pub returns-clause-square : goal.returns-clause-square
 returns-clause-square g c =
     let x = c.loop-turn.invariant.searched in
     let range = c.columns-columns.ensures in
     let few : c.loop-turn.turn * c.args.m.now.columns ≤ (c.args.m.now.columns + 1) * c.args.m.now.columns = mul-le c.loop-turn.turn c.args.m.now.columns (c.args.m.now.columns + 1) c.args.m.now.columns (omega (arith, c.loop-turn.auto.turn-end, range.columns)) (omega arith) in
-    let whole = one_more c.args.m.now.columns c.args.m.now.columns in
     squared c.args.m.now c.args.near.now c.args.further c.requires.near c.requires.rows (omega (arith, range.range.0, range.columns)) c.loop-turn.marks x.count x.search.columns c.args.steps.now c.loop-turn.steps
-    (omega (arith, c.loop-turn.invariant.square, all_most c.args.m.now c.args.near.now (take (c.args.near.now.first + c.loop-turn.marks.rows) c.args.m.now.rows) c.loop-turn.forest x.search.is_forest, few, whole, c.loop-turn.auto.turn-end, range.columns))
+    (end_square _ _ _ _ _ _ _ c.loop-turn.invariant.square (all_most c.args.m.now c.args.near.now (take (c.args.near.now.first + c.loop-turn.marks.rows) c.args.m.now.rows) c.loop-turn.forest x.search.is_forest) few (omega (arith, c.loop-turn.auto.turn-end, range.columns)))
 
 pub grow_from_column-requires-clause-search : goal.grow_from_column-requires-clause-search
 grow_from_column-requires-clause-search g c = c.loop-turn.invariant.searched.search

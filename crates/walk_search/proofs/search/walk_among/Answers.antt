@@ -1,5 +1,6 @@
 use Rattle.std.proofs.Common.{◌*◌, ◌≤◌, MatchOption, take, sum_by, length, subst, zero-add, arith, rules}
 use Rattle.std.proofs.lemmas.Nat.{mul-le}
+use Rattle.std.proofs.lemmas.Result.{IfOk-weaker}
 use Rattle.row_model.specs.Graph.{HasOddWalk}
 use Rattle.row_model.specs.Cycles.{IsOddWalk}
 use Rattle.walk_search.proofs.NearLaws.{near_none, AreWithin, are_within}
@@ -32,22 +33,16 @@ returns-in_err-holders g c =
     let w = held g (goal.at.returns-in_err-holders g c).After-rows_by_column in
     record { found = search rules; ticks = w.ticks; few = w.few; square = w.square; reads = search rules; turns = search rules }
 
-pub returns-in_err-found : goal.returns-in_err-found
-returns-in_err-found g c =
-    let w = searched g (goal.at.returns-in_err-found g c).After-search in
-    record { found = search rules; ticks = w.ticks; few = w.few; square = w.square; reads = search rules; turns = search rules }
-
 pub returns : goal.returns
 returns g c =
     let w = searched g (goal.at.returns g c).After-search in
+    let columns = c.args.m.now.columns in
+    let rows = c.args.m.now.rows in
     record {
-      found = subst
-          (λ n. MatchOption c.in_ok-found.found (HasOddWalk c.args.m.now.columns (take n c.args.m.now.rows) → ⊥) (IsOddWalk c.args.m.now.columns (take n c.args.m.now.rows)))
-          (zero-add c.args.rows)
-          c.in_ok-found.ensures.found;
+      found = IfOk-weaker c.search.result _ _ (λ found. subst (λ n. MatchOption found (HasOddWalk columns (take n rows) → ⊥) (IsOddWalk columns (take n rows))) (zero-add c.args.rows)) c.search.ensures.found;
       ticks = w.ticks;
       few = w.few;
       square = w.square;
-      reads = omega (arith, c.in_ok-holders.ensures.turns, c.in_ok-found.ensures.costs);
-      turns = λ none. omega (arith, c.in_ok-holders.ensures.turns, c.in_ok-found.ensures.turns none);
+      reads = IfOk-weaker c.search.result _ _ (λ found costs. omega (arith, c.in_ok-holders.ensures.turns, costs)) c.search.ensures.costs;
+      turns = IfOk-weaker c.search.result _ _ (λ found turns none. omega (arith, c.in_ok-holders.ensures.turns, turns none)) c.search.ensures.turns;
     }
