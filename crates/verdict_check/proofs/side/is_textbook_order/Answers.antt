@@ -1,4 +1,4 @@
-use Rattle.std.proofs.Common.{IsTrue, refl, subst, sym}
+use Rattle.std.proofs.Common.{IsTrue, refl, subst, sym, arith}
 use Rattle.column_order.specs.Orders.{IsOrder}
 use Rattle.std.proofs.lemmas.Result.{IfOk-from_err}
 use Rattle.std.proofs.lemmas.Bool.{both_ways}
@@ -21,7 +21,7 @@ pub returns-clause-turns : goal.returns-clause-turns
 returns-clause-turns g c = counted_ok (λ x. IsTrue x) c.keeps_turned.result _ _ _ _ c.count_rows.ensures
 
 pub returns-clause-order : goal.returns-clause-order
-returns-clause-order g c = counted_ok (λ _. IsOrder c.args.derived.now.columns c.args.order.now) c.keeps_turned.result _ _ _ _ c.count_rows.ensures
+returns-clause-order g c = counted_ok (λ _. IsOrder c.args.derived.now.columns c.args.order.now) _ _ _ _ _ (omega arith)
 
 pub returns-in_err-is_order-clause-order : goal.returns-in_err-is_order-clause-order
 returns-in_err-is_order-clause-order g c = IfOk-from_err c.from_residual.result _ c.from_residual.ensures.0
