@@ -55,8 +55,7 @@ returns-clause-whole g c =
 
 pub returns-clause-taken : goal.returns-clause-taken
 returns-clause-taken g c =
-    let some = length-take-le c.loop-filled.filled c.loop-filled.bytes.items (omega (arith, c.loop-filled.invariant.within, c.loop-filled.bytes.ok)) in
-    (
+    let some = length-take-le c.loop-filled.filled c.loop-filled.bytes.items (omega (arith, c.loop-filled.invariant.within, c.loop-filled.bytes.ok)) in (
       take c.loop-filled.filled c.loop-filled.bytes.items,
       false,
       record {
