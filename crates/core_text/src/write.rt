@@ -21,8 +21,7 @@ pub fn print_core(t: &CoreText, text: &mut Vec<u8>) -> Result<(), NoMemory>
     push_head(t, text)?;
     push_entries(t, text)?;
     print_cycle(t.lines(), text)?;
-    push(text, b"end\n")?;
-    Ok(())
+    push(text, b"end\n")
 }
 
 // The lines before the first row, but for the number of rows.
@@ -35,8 +34,7 @@ fn push_head(t: &CoreText, text: &mut Vec<u8>) -> Result<(), NoMemory>
     push(text, word_of(t.kind))?;
     push(text, b"\ncolumns")?;
     push_word(u64::from(t.columns), text)?;
-    push(text, b"\ncore ")?;
-    Ok(())
+    push(text, b"\ncore ")
 }
 
 // The number of rows, and each row with its order.
@@ -46,8 +44,7 @@ fn push_entries(t: &CoreText, text: &mut Vec<u8>) -> Result<(), NoMemory>
 {
     push_number(text, t.rows.len() as u64)?;
     push(text, b"\n")?;
-    push_each_entry(t, text)?;
-    Ok(())
+    push_each_entry(t, text)
 }
 
 fn push_each_entry(t: &CoreText, text: &mut Vec<u8>) -> Result<(), NoMemory>
@@ -69,6 +66,5 @@ fn push_entry(row: u32, order: &[u32], text: &mut Vec<u8>) -> Result<(), NoMemor
     push_number(text, u64::from(row))?;
     push(text, b"\nwithout")?;
     push_words(order, text)?;
-    push(text, b"\n")?;
-    Ok(())
+    push(text, b"\n")
 }

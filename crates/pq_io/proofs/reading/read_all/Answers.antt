@@ -1,8 +1,17 @@
-use Rattle.std.proofs.Common.{true, take, refl, sym, subst, ◌∙◌, arith, rules}
+use Rattle.std.proofs.Common.{ℕ, ◌<◌, true, false, List, length, take, Option, Some, None, refl, sym, ap, subst, ◌∙◌, arith, rules, length-append}
+use Rattle.std.proofs.lemmas.Bool.{false≢true}
+use Rattle.std.proofs.lemmas.List.{length-take-le}
+use Rattle.std.specs.Prelude.{IfSome}
 use Rattle.std.specs.Io.KnownBytes.{Consumes}
 use Rattle.pq_io.proofs.Handed.{handed_out-nil, goes_on-more, goes_on-end}
 use Rattle.pq_io.proofs.Pieces.{Consumes-take}
 use Rattle.pq_io.proofs.reading.read_all.Goals as goal
+
+-- where more than the limit was read of a text, the text is longer than the limit
+more_left : (old new : Option (List ℕ)) (piece : List ℕ) (limit : ℕ) → Consumes old new piece → limit < length piece → IfSome old (λ bytes. limit < length bytes)
+more_left None new piece limit read more = tt
+more_left (Some xs) None piece limit read more = absurd read
+more_left (Some xs) (Some ys) piece limit read more = omega (arith, more, ap length read, length-append piece ys)
 
 pub loop-filled-init : goal.loop-filled-init
 loop-filled-init g c = record {
@@ -38,3 +47,21 @@ returns-then-n-eq0-clause-taken g c = (
   },
   (c.shrink_to_fit.ensures.items ∙ c.truncate.ensures.items, refl),
 )
+
+pub returns-clause-whole : goal.returns-clause-whole
+returns-clause-whole g c =
+    let some = length-take-le c.loop-filled.filled c.loop-filled.bytes.items (omega (arith, c.loop-filled.invariant.within, c.loop-filled.bytes.ok)) in
+    more_left _ _ (take c.loop-filled.filled c.loop-filled.bytes.items) c.args.limit c.loop-filled.invariant.so_far (omega (arith, some, c.loop-filled-test.false))
+
+pub returns-clause-taken : goal.returns-clause-taken
+returns-clause-taken g c =
+    let some = length-take-le c.loop-filled.filled c.loop-filled.bytes.items (omega (arith, c.loop-filled.invariant.within, c.loop-filled.bytes.ok)) in (
+      take c.loop-filled.filled c.loop-filled.bytes.items,
+      false,
+      record {
+        taken = c.loop-filled.invariant.taken;
+        consumed = c.loop-filled.invariant.so_far;
+        end = λ e. absurd (false≢true e);
+      },
+      omega (arith, some, c.loop-filled-test.false),
+    )

@@ -18,3 +18,12 @@ returns-clause-fails c =
     let on : is_to_fail c.self.inside.failing.items (one_more c.self.inside.calls) ≡ false = search rules in
     rw (← c.self.view_is, ← c.deref-2.ensures.value)
     (or_neither _ _ on (ap is_none (content_of-last c.deref-2.result.now c.args.name.now c.in-Some.file found.0 found.1 c.in-Some.ensures.last)))
+
+pub returns-then-contains-clause-asked : goal.returns-then-contains-clause-asked
+returns-then-contains-clause-asked c = rw (← c.self.view_is, ← c.as_bytes.ensures.value) c.ask.ensures
+
+pub returns-in_default-clause-asked : goal.returns-in_default-clause-asked
+returns-in_default-clause-asked c = rw (← c.self.view_is, ← c.as_bytes.ensures.value) c.ask.ensures
+
+pub returns-clause-asked : goal.returns-clause-asked
+returns-clause-asked c = rw (← c.self.view_is, ← c.as_bytes.ensures.value) c.ask.ensures
