@@ -1,7 +1,7 @@
 // What the judge says of the text of a core.
 
 /// What comes of judging the text of a core.
-#[derive(Clone, Copy)]
+#[derive(Clone, Copy, Debug, PartialEq, Eq)]
 pub enum CoreChecked {
     /// Each test is passed.
     Valid,
@@ -10,7 +10,7 @@ pub enum CoreChecked {
 }
 
 /// The test that the text of a core fails. Lines count from 1.
-#[derive(Clone, Copy)]
+#[derive(Clone, Copy, Debug, PartialEq, Eq)]
 pub enum CoreReason {
     /// The kind is not that of the matrix.
     Kind,

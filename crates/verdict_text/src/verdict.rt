@@ -29,7 +29,7 @@ impl Drop for Verdict {
 }
 
 /// What a yes has to show.
-#[derive(Clone, Copy)]
+#[derive(Clone, Copy, Debug, PartialEq, Eq)]
 pub enum Version {
     /// Each frontier of the tree of a side is one of its orders.
     One,
@@ -38,7 +38,7 @@ pub enum Version {
 }
 
 /// The number of columns of each side.
-#[derive(Clone, Copy)]
+#[derive(Clone, Copy, Debug, PartialEq, Eq)]
 pub enum Columns {
     /// Of the only side.
     One(u32),
