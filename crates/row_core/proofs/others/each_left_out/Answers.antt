@@ -97,7 +97,7 @@ loop-i-init g c = record {
 
 pub returns-clause-tried : goal.returns-clause-tried
 returns-clause-tried g c =
-    let all : c.loop-i.i ≡ length c.args.set.now.rows.items = omega (arith, c.loop-i.auto.i-end, c.loop-i-test.false, c.len-i-end.ensures, c.args.set.now.rows.ok) in
+    let all : c.loop-i.i ≡ length c.args.set.now.rows.items = omega (arith, c.loop-i.auto.i-end, c.loop-i-test.false, c.args.set.now.rows.ok) in
     (c.loop-i.invariant.count ∙ all, λ i l. c.loop-i.invariant.orders i (omega (arith, l, all)))
 
 pub returns-clause-asked : goal.returns-clause-asked
