@@ -9,3 +9,4 @@ pub mod Drawn
 pub mod Grown
 mod MetNodes
 pub mod Centres
+mod Answered

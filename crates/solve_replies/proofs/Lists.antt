@@ -1,5 +1,6 @@
 -- The first orders among those of a set are the first of the same set in other words.
 use Rattle.std.proofs.Common.{◌≡◌, ◌∙◌, ◌↔◌, ◌+◌, ◌-◌, ℕ, Bool, List, [], ◌∷◌, ◌++◌, take, flat_map, slice_get, Some, IsTrue, codes, sym, ap, inl, inr, append_assoc, append-nil}
+use Rattle.std.specs.Fmt.{decimal}
 use Rattle.std.proofs.lemmas.Grind.{flat_map-append}
 use Rattle.std.proofs.lemmas.List.Elements.{All-weaker}
 use Rattle.row_model.proofs.Pushed.{take_next}
@@ -37,17 +38,23 @@ orders_next f orders i o start now next at so is =
     ap (λ t. start ++ t)
     (ap (λ t. flat_map f (take i orders) ++ t) (sym (append-nil (f o))) ∙ sym (flat_map-append f (take i orders) (o ∷ [])) ∙ ap (flat_map f) (take_next orders i o at))
 
-regrouped : (a k l o m e : List ℕ) → (((([] ++ a) ++ (k ++ l)) ++ o) ++ m) ++ e ≡ a ++ (k ++ (l ++ (o ++ (m ++ e))))
-regrouped a k l o m e = simp append_assoc
+-- the number of orders, and their lines
+pub orders_told : (old t0 t1 t2 t3 lines : List ℕ) (n k : ℕ) → t0 ≡ old ++ codes "orders " → t1 ≡ t0 ++ decimal k → t2 ≡ t1 ++ 10 ∷ [] → t3 ≡ t2 ++ lines → k ≡ n → t3 ≡ old ++ (codes "orders " ++ (decimal n ++ (10 ∷ lines)))
+orders_told old t0 t1 t2 t3 lines n k e0 e1 e2 e3 same =
+    e3 ∙ ap (λ t. t ++ lines) (e2 ∙ ap (λ t. t ++ 10 ∷ []) (e1 ∙ ap (λ t. t ++ decimal k) e0 ∙ ap (λ j. (old ++ codes "orders ") ++ decimal j) same)) ∙
+    append_assoc ((old ++ codes "orders ") ++ decimal n) (10 ∷ []) lines ∙ append_assoc (old ++ codes "orders ") (decimal n) (10 ∷ lines) ∙ append_assoc old (codes "orders ") (decimal n ++ (10 ∷ lines))
+
+regrouped : (s a k l o m : List ℕ) → (((s ++ a) ++ (k ++ l)) ++ o) ++ m ≡ s ++ (a ++ (k ++ (l ++ (o ++ m))))
+regrouped s a k l o m = simp append_assoc
 
 -- the text of a list, piece by piece
-pub list_told : (kind : Kind) (c : ℕ) (orders : List (List ℕ)) (more : Bool) (t0 t1 t2 t3 t4 t5 : List ℕ) → t0 ≡ [] → t1 ≡ t0 ++ codes "pq-list 1\n" → t2 ≡ t1 ++ (kind_line kind ++ columns_line (c ∷ [])) →
-    t3 ≡ t2 ++ orders_text orders → t4 ≡ t3 ++ more_line more → t5 ≡ t4 ++ codes "end\n" → t5 ≡ list_text kind c orders more
+pub list_told : (kind : Kind) (c : ℕ) (orders : List (List ℕ)) (more : Bool) (t0 t1 t2 t3 t4 : List ℕ) → t1 ≡ t0 ++ codes "pq-list 1\n" → t2 ≡ t1 ++ (kind_line kind ++ columns_line (c ∷ [])) →
+    t3 ≡ t2 ++ orders_text orders → t4 ≡ t3 ++ (more_line more ++ codes "end\n") → t4 ≡ t0 ++ list_text kind c orders more
 unfolding list_text
-list_told kind c orders more t0 t1 t2 t3 t4 t5 e0 e1 e2 e3 e4 e5 =
-    e5 ∙
-    ap (λ t. t ++ codes "end\n") (e4 ∙ ap (λ t. t ++ more_line more) (e3 ∙ ap (λ t. t ++ orders_text orders) (e2 ∙ ap (λ t. t ++ (kind_line kind ++ columns_line (c ∷ []))) (e1 ∙ ap (λ t. t ++ codes "pq-list 1\n") e0)))) ∙
-    regrouped (codes "pq-list 1\n") (kind_line kind) (columns_line (c ∷ [])) (orders_text orders) (more_line more) (codes "end\n")
+list_told kind c orders more t0 t1 t2 t3 t4 e1 e2 e3 e4 =
+    e4 ∙
+    ap (λ t. t ++ (more_line more ++ codes "end\n")) (e3 ∙ ap (λ t. t ++ orders_text orders) (e2 ∙ ap (λ t. t ++ (kind_line kind ++ columns_line (c ∷ []))) e1)) ∙
+    regrouped t0 (codes "pq-list 1\n") (kind_line kind) (columns_line (c ∷ [])) (orders_text orders) (more_line more ++ codes "end\n")
 
 -- a list of the frontiers of the tree of all valid orders
 pub frontiers_listed : (kind : Kind) (k : ℕ) (t : PqTree) (orders : List (List ℕ)) (more : Bool) (c : ℕ) (text : List ℕ) → AreFirst (IsFrontier (outline t)) k orders → IsTrue more ↔ HasOther (IsFrontier (outline t)) orders →

@@ -68,6 +68,18 @@ first_solved i status s n some w =
       most = omega (arith, w.most, first_rows i);
     }
 
+-- the only side was solved
+pub only_solved : (i : InstanceValue) (status s n : ℕ) → length (instance_columns i) ≡ 1 → SolvesMatrixWithin (derived_matrix i 1) status s n → SolvesWithin i status s n
+only_solved i status s n one w =
+    let steps : sides_steps i ≡ taking_steps_to i 1 = ap (taking_steps_to i) one in
+    record {
+      yes = λ e. omega (arith, w.yes e, steps);
+      side = 1;
+      is_side = (omega arith, omega (arith, one));
+      no = w.no;
+      most = omega (arith, w.most, steps);
+    }
+
 -- a cycle of the first side
 pub first_no : (i : InstanceValue) (side : ℕ) (lines cycle : List Line) → side ≡ 1 → lines ≡ cycle → IsAnswer (derived_matrix i 1) (No cycle) → IsFirstConflict (derived_matrix i 1) cycle → IsClaimOf i (no_claim side lines)
 first_no i side lines cycle is same answer first =

@@ -31,6 +31,14 @@ summary_text m t =
     codes "pq-gen 1\ncolumns " ++ (decimal m.columns ++ (codes "\nrows " ++ (decimal (length m.rows) ++ (codes "\nones " ++ (decimal (sum_by length m.rows) ++
     (codes "\nanswer yes\np " ++ (decimal (inner_sum 1 0 t) ++ (codes "\nq " ++ (decimal (inner_sum 0 1 t) ++ codes "\nend\n")))))))))
 
+-- a matrix has so many columns, rows and ones, and a tree so many P-nodes and Q-nodes
+pub record IsCounted (m : RowList) (t : Outline) (c r o x y : ℕ) : Type 0 where
+  pub columns : c ≡ m.columns
+  pub rows : r ≡ length m.rows
+  pub ones : o ≡ sum_by length m.rows
+  pub p : x ≡ inner_sum 1 0 t
+  pub q : y ≡ inner_sum 0 1 t
+
 -- the text is the summary of the matrix that a number draws
 pub record IsSummary (seed c rows : ℕ) (text : List ℕ) : Type 0 where
   pub tree : Outline

@@ -1,5 +1,5 @@
 // The solver of the program, as the crates that ask for one see it.
-use c1p_solve::answer;
+use crate::solve_matrix;
 use row_judge::{Judge, Judged};
 use row_model::{Matrix, NoMemory};
 use std::alloc::Global;
@@ -25,6 +25,6 @@ impl Judge for Solver {
         m: &Matrix,
         steps: &mut Steps<L>,
     ) -> Result<Judged, NoMemory> {
-        Ok(answer(alloc, m, steps)?.solved)
+        solve_matrix(alloc, m, steps)
     }
 }

@@ -1,5 +1,5 @@
 // The text of a list of orders.
-ghost use Rattle.std.specs.Prelude.{◌≡◌, ◌+◌, ◌*◌, ◌≤◌, ◌++◌, IfOk, OnOk};
+ghost use Rattle.std.specs.Prelude.{◌≡◌, ◌+◌, ◌*◌, ◌≤◌, ◌++◌, IfOk, OnOk, codes};
 ghost use Rattle.solve_replies.specs.Lists.{order_line, orders_text, more_line, list_text};
 
 use crate::NoMemory;
@@ -7,6 +7,7 @@ use order_list::Orders;
 use plain_text::push_number;
 use row_model::Kind;
 use std::alloc::Global;
+use text_parts::{push, push_words};
 use verdict_text::{Columns, print_subject};
 
 // Bytes of a line for each column where there are at most 9,999: a space and up to four digits.
@@ -28,12 +29,19 @@ pub fn printed_list(
         text.items ≡ list_text kind columns found.now.orders found.now.more) }
 {
     let mut text = Vec::with_capacity(alloc, room(columns, found.len()))?;
-    text.extend_from_slice(b"pq-list 1\n")?;
-    print_subject(kind, Columns::One(columns), &mut text)?;
-    print_orders(found, &mut text)?;
-    print_more(found.more(), &mut text)?;
-    text.extend_from_slice(b"end\n")?;
+    print_list(kind, columns, found, &mut text)?;
     Ok(text)
+}
+
+// The lines of the list.
+fn print_list(kind: Kind, columns: u32, found: &Orders, text: &mut Vec<u8>) -> Result<(), NoMemory>
+    ensures { OnOk result (text.new.items ≡ text.old.items ++
+        list_text kind columns found.now.orders found.now.more) }
+{
+    push(text, b"pq-list 1\n")?;
+    print_subject(kind, Columns::One(columns), text)?;
+    print_orders(found, text)?;
+    print_end(found.more(), text)
 }
 
 // How many bytes the text has at most where there are at most 9,999 columns.
@@ -49,9 +57,9 @@ fn room(columns: u32, orders: u32) -> usize
 fn print_orders(found: &Orders, text: &mut Vec<u8>) -> Result<(), NoMemory>
     ensures { OnOk result (text.new.items ≡ text.old.items ++ orders_text found.now.orders) }
 {
-    text.extend_from_slice(b"orders ")?;
+    push(text, b"orders ")?;
     push_number(text, u64::from(found.len()))?;
-    text.extend_from_slice(b"\n")?;
+    push(text, b"\n")?;
     for i in 0..found.len() {
         print_order(found.order(i + 1), text)?;
     }
@@ -62,22 +70,18 @@ fn print_orders(found: &Orders, text: &mut Vec<u8>) -> Result<(), NoMemory>
 fn print_order(order: &[u32], text: &mut Vec<u8>) -> Result<(), NoMemory>
     ensures { OnOk result (text.new.items ≡ text.old.items ++ order_line order.now) }
 {
-    text.extend_from_slice(b"order")?;
-    for column in order {
-        text.push(b' ')?;
-        push_number(text, u64::from(*column))?;
-    }
-    text.push(b'\n')?;
-    Ok(())
+    push(text, b"order")?;
+    push_words(order, text)?;
+    push(text, b"\n")
 }
 
-// Whether there are others.
-fn print_more(more: bool, text: &mut Vec<u8>) -> Result<(), NoMemory>
-    ensures { OnOk result (text.new.items ≡ text.old.items ++ more_line more) }
+// Whether there are others, and the last line.
+fn print_end(more: bool, text: &mut Vec<u8>) -> Result<(), NoMemory>
+    ensures { OnOk result (text.new.items ≡ text.old.items ++ (more_line more ++ codes "end\n")) }
 {
     if more {
-        text.extend_from_slice(b"more yes\n")
+        push(text, b"more yes\nend\n")
     } else {
-        text.extend_from_slice(b"more no\n")
+        push(text, b"more no\nend\n")
     }
 }

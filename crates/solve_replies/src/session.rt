@@ -16,6 +16,7 @@ use plain_text::push_number;
 use row_model::{Kind, Matrix, ROW_BOUND};
 use std::alloc::Global;
 use step_count::{Ledger, Steps};
+use text_parts::push;
 use verdict_replies::Reply;
 use verdict_text::{Columns, print_cycle, print_side, print_subject};
 
@@ -64,9 +65,8 @@ fn print_start(kind: Kind, columns: u32, text: &mut Vec<u8>) -> Result<(), NoMem
     ensures { OnOk result (text.new.items ≡ text.old.items ++
         (codes "pq-extend 1\n" ++ (kind_line kind ++ columns_line (columns ∷ [])))) }
 {
-    text.extend_from_slice(b"pq-extend 1\n")?;
-    print_subject(kind, Columns::One(columns), text)?;
-    Ok(())
+    push(text, b"pq-extend 1\n")?;
+    print_subject(kind, Columns::One(columns), text)
 }
 
 // Takes further rows in turn, and tells what became of each.
@@ -151,6 +151,5 @@ fn print_end(alloc: Global, session: &Session, text: &mut Vec<u8>) -> Result<(),
     let tree = session.tree()?;
     let order = tree.frontier(alloc)?;
     print_side(&tree, &order, text)?;
-    text.extend_from_slice(b"end\n")?;
-    Ok(())
+    push(text, b"end\n")
 }

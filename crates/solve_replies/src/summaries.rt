@@ -3,7 +3,9 @@ ghost use Rattle.std.specs.Prelude.{◌≡◌, ◌≤◌, length, sum_by, IfOk};
 ghost use Rattle.c1p_solve.specs.Answers.{HasAllOrders};
 ghost use Rattle.row_model.specs.declared.TheConstants.{MAX_COLUMNS, MAX_ROWS};
 ghost use Rattle.solve_replies.specs.Generated.{generated};
-ghost use Rattle.solve_replies.specs.Summaries.{IsSummary};
+ghost use Rattle.pq_tree.specs.Outline.{Outline};
+ghost use Rattle.row_model.specs.Rows.{RowList};
+ghost use Rattle.solve_replies.specs.Summaries.{IsCounted, IsSummary, summary_text};
 ghost use Rattle.solve_replies.specs.Steps.{made_status, SolvesMatrixWithin};
 
 use crate::NoMemory;
@@ -36,10 +38,24 @@ pub fn summary_reply<L: Ledger>(
     ensures steps { SolvesMatrixWithin (generated seed columns rows)
         (made_status (λ reply. reply.status) result) steps.old steps.new }
 {
-    let grown = grow(alloc, seed, columns, rows, steps)?;
+    let Grown { tree, ones } = grow(alloc, seed, columns, rows, steps)?;
     let mut nodes = Nodes { p: 0, q: 0 };
-    count_nodes(grown.tree.root(), &mut nodes);
-    let ones = grown.ones;
+    count_nodes(tree.root(), &mut nodes);
+    summary(alloc, columns, rows, ones, nodes)
+}
+
+// The reply with a summary of these numbers.
+fn summary(
+    alloc: Global,
+    columns: u32,
+    rows: u32,
+    ones: u64,
+    nodes: Nodes,
+) -> Result<Reply, NoMemory>
+    ensures status { IfOk result (λ reply. reply.status ≡ 0) }
+    ensures text { IfOk result (λ reply. (m : RowList) (t : Outline) → IsCounted m t columns rows ones nodes.p nodes.q
+        → reply.text.items ≡ summary_text m t) }
+{
     let text = format!(in alloc;
         "pq-gen 1\ncolumns {columns}\nrows {rows}\nones {ones}\nanswer yes\np {}\nq {}\nend\n",
         nodes.p, nodes.q

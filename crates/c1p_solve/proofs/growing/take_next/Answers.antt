@@ -12,3 +12,6 @@ pub returns-clause-refused : goal.returns-clause-refused
 returns-clause-refused g c = λ e rows s h o.
     c.reduce_after.ensures.refused e rows h.tied
     (subst (λ (one : List (List ℕ)). HasValidOrder c.args.m.now.columns (rows ++ one)) (sym (only_row c.args.m.now.rows c.requires.one)) o)
+
+pub returns-clause-unchanged : goal.returns-clause-unchanged
+returns-clause-unchanged g c = c.reduce_after.ensures.unchanged

@@ -1,4 +1,5 @@
-use Rattle.std.proofs.Common.{◌+◌, IsTrue, length, arith}
+use Rattle.std.proofs.Common.{◌+◌, ◌≤◌, IsTrue, length, arith}
+use Rattle.std.proofs.lemmas.Result.{IfOk-from_err}
 use Rattle.row_judge.specs.Costs.{AreJudgements}
 use Rattle.row_core.proofs.Judgements.{none_judged, more_judged, judged_within}
 use Rattle.row_core.proofs.Numbers.{increasing}
@@ -83,3 +84,55 @@ returns-in_err-orders-clause-any g c = within g (goal.at.returns-in_err-orders-c
 
 pub returns-in-Orders-clause-any : goal.returns-in-Orders-clause-any
 returns-in-Orders-clause-any g c = within g (goal.at.returns-in-Orders-clause-any g c).After-each_left_out
+
+pub returns-in_err-set-clause-core : goal.returns-in_err-set-clause-core
+returns-in_err-set-clause-core g c = IfOk-from_err c.from_residual.result _ c.from_residual.ensures.0
+
+pub returns-in_err-set-clause-short : goal.returns-in_err-set-clause-short
+returns-in_err-set-clause-short g c = IfOk-from_err c.from_residual.result _ c.from_residual.ensures.0
+
+pub returns-in_err-set-clause-asked : goal.returns-in_err-set-clause-asked
+returns-in_err-set-clause-asked g c = λ turn. IfOk-from_err c.from_residual.result _ c.from_residual.ensures.0
+
+pub returns-in_err-set-clause-most : goal.returns-in_err-set-clause-most
+returns-in_err-set-clause-most g c = IfOk-from_err c.from_residual.result _ c.from_residual.ensures.0
+
+pub returns-in_err-set-clause-judgements : goal.returns-in_err-set-clause-judgements
+returns-in_err-set-clause-judgements g c = λ turn. IfOk-from_err c.from_residual.result _ c.from_residual.ensures.0
+
+pub returns-in_err-orders-clause-core : goal.returns-in_err-orders-clause-core
+returns-in_err-orders-clause-core g c = IfOk-from_err c.from_residual-in_err-orders.result _ c.from_residual-in_err-orders.ensures.0
+
+pub returns-in_err-orders-clause-short : goal.returns-in_err-orders-clause-short
+returns-in_err-orders-clause-short g c = IfOk-from_err c.from_residual-in_err-orders.result _ c.from_residual-in_err-orders.ensures.0
+
+pub returns-in_err-orders-clause-asked : goal.returns-in_err-orders-clause-asked
+returns-in_err-orders-clause-asked g c = λ turn. IfOk-from_err c.from_residual-in_err-orders.result _ c.from_residual-in_err-orders.ensures.0
+
+pub returns-in_err-orders-clause-most : goal.returns-in_err-orders-clause-most
+returns-in_err-orders-clause-most g c = IfOk-from_err c.from_residual-in_err-orders.result _ c.from_residual-in_err-orders.ensures.0
+
+pub returns-in_err-orders-clause-judgements : goal.returns-in_err-orders-clause-judgements
+returns-in_err-orders-clause-judgements g c = λ turn. IfOk-from_err c.from_residual-in_err-orders.result _ c.from_residual-in_err-orders.ensures.0
+
+pub returns-in_err-set-clause-asked_any : goal.returns-in_err-set-clause-asked_any
+returns-in_err-set-clause-asked_any g c = λ turn.
+    omega (arith, c.all_tried.ensures.asked_any, c.rounds.invariant.asked turn, c.rounds.invariant.few, c.rounds.invariant.blamed.few, c.requires.blamed.few)
+
+-- the times that the judge was asked, with an answer and with an error
+times : (g : given.Over) (c : After-each_left_out g) → IsTrue g.J.Judge.in_turn → g.J.Judge.asked c.each_left_out.new.judge ≤ g.J.Judge.asked c.args.judge.now + (length c.args.blamed.rows.items + c.args.blamed.untried + 1)
+times g c turn =
+    omega (arith, c.each_left_out.ensures.asked, c.in_ok-set.ensures.asked, c.in_ok-set.ensures.few, c.rounds.invariant.asked turn, c.rounds.invariant.few, c.rounds.invariant.blamed.few, c.requires.blamed.few)
+
+pub returns-in_err-orders-clause-asked_any : goal.returns-in_err-orders-clause-asked_any
+returns-in_err-orders-clause-asked_any g c = times g (goal.at.returns-in_err-orders-clause-asked_any g c).After-each_left_out
+
+pub returns-in-Orders-clause-asked_any : goal.returns-in-Orders-clause-asked_any
+returns-in-Orders-clause-asked_any g c = times g (goal.at.returns-in-Orders-clause-asked_any g c).After-each_left_out
+
+pub returns-in-Orders-clause-asked : goal.returns-in-Orders-clause-asked
+returns-in-Orders-clause-asked g c = λ turn.
+    rw c.of.ensures (omega (arith, c.each_left_out.ensures.asked, c.in_ok-set.ensures.asked, c.in_ok-set.ensures.few, c.rounds.invariant.asked turn, c.rounds.invariant.blamed.few))
+
+pub returns-in-Orders-clause-short : goal.returns-in-Orders-clause-short
+returns-in-Orders-clause-short g c = rw c.of.ensures c.in_ok-set.ensures.narrowed.short

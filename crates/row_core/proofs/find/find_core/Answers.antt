@@ -1,4 +1,6 @@
-use Rattle.std.proofs.Common.{◌≡◌, ◌∙◌, ◌+◌, ◌*◌, ◌≤◌, List, IsTrue, ap, length, subst, sym, arith}
+use Rattle.std.proofs.Common.{◌≡◌, ◌∙◌, ◌+◌, ◌*◌, ◌≤◌, List, Result, Option, Some, None, IfOk, IfSome, IsTrue, ap, length, subst, sym, arith}
+use Rattle.std.specs.Prelude.{⊤, IsErr}
+use Rattle.std.proofs.lemmas.Result.{IfOk-from_err}
 use Rattle.std.proofs.lemmas.List.{append-nil}
 use Rattle.std.proofs.lemmas.List.FromFn.{length-range_with_len}
 use Rattle.std.specs.List.{range_with_len}
@@ -7,15 +9,16 @@ use Rattle.row_core.proofs.Rounds.{all_rounds, rows_twice}
 use Rattle.row_model.specs.declared.graph.Line.{Line}
 use Rattle.row_model.specs.Rows.{RowList}
 use Rattle.row_model.specs.Cycles.{IsOddCycle}
-use Rattle.row_judge.specs.Costs.{AreJudgements}
-use Rattle.row_judge.specs.Judges.{HasShortCycle, IsFirstConflict}
+use Rattle.row_judge.specs.Costs.{Costs, IsYesWithin, AreJudgements}
+use Rattle.row_judge.specs.Judges.{HasShortCycle, IsFirstConflict, IsJudged}
+use Rattle.row_judge.specs.declared.Judged.{Judged}
 use Rattle.core_text.specs.Cores.{AreRowNumbers, rows_at}
 use Rattle.row_core.specs.Blamed.{part_at, rotated, IsBlamed}
 use Rattle.row_core.proofs.Numbers.{ascends_all, rows_at_all}
 use Rattle.row_core.proofs.Whole.{reasons_within, some_blamed, some_row, part_all, length-rotated}
 use Rattle.row_core.proofs.find.find_core.Given as given
 use Rattle.row_core.proofs.find.find_core.Goals as goal
-use Rattle.row_core.proofs.find.find_core.Goals.{In_ok-blamed-in-No, After-core_among}
+use Rattle.row_core.proofs.find.find_core.Goals.{After-judged_short, In_ok-blamed-in-No, After-core_among}
 
 -- the numbers of all rows have the cycle of the matrix
 all_have : (m : RowList) (cycle : List Line) → IsOddCycle m.columns m.rows cycle → IsOddCycle m.columns (rows_at m.rows (range_with_len 1 (length m.rows))) cycle
@@ -109,3 +112,94 @@ pub returns-in_ok-core-in-No-clause-cored : goal.returns-in_ok-core-in-No-clause
 returns-in_ok-core-in-No-clause-cored g c =
     let judgement = rw c.in-No.is at c.in_ok-tree.ensures.judged in
     (c.in_ok-core-in-No.ensures.core, judgement.1, c.in_ok-core-in-No.ensures.short)
+
+-- the first judgement is one of those for the rows
+one_of : (g : given.Over) (c : After-judged_short g) → AreJudgements g.J.Judge.costs c.args.m.now (2 * length c.args.m.now.rows + 1) c.args.steps.now c.judged_short.new.steps
+one_of g c =
+    fewer_judged g.J.Judge.costs c.args.m.now 1 (2 * length c.args.m.now.rows + 1) c.args.steps.now c.judged_short.new.steps (omega arith)
+    (whole_judged g.J.Judge.costs c.args.m.now c.args.steps.now c.judged_short.new.steps c.judged_short.ensures.most)
+
+pub returns-in-Yes : goal.returns-in-Yes
+returns-in-Yes g c =
+    let m = c.args.m.now in
+    record {
+      cored = subst (IsJudged m) c.in-Yes.is c.in_ok-tree.ensures.judged;
+      asked = λ turn. c.judged_short.ensures.asked;
+      asked_any = λ turn. omega (arith, c.judged_short.ensures.asked);
+      most = omega (arith, c.judged_short.ensures.asked);
+      yes = subst (λ (a : Judged). IfSome g.J.Judge.costs (λ k. IsYesWithin k m c.args.steps.now c.judged_short.new.steps a)) c.in-Yes.is c.in_ok-tree.ensures.yes;
+      judgements = λ turn. whole_judged g.J.Judge.costs m c.args.steps.now c.judged_short.new.steps c.judged_short.ensures.most;
+      any = λ turn. one_of g (goal.at.returns-in-Yes g c).After-judged_short;
+    }
+
+-- nothing is said of the steps of a core, or of an error
+core_within : (costs : Option Costs) → IfSome costs (λ k. ⊤)
+core_within None = tt
+core_within (Some k) = tt
+
+none_within : {T E : Type 0} (costs : Option Costs) (made : Result T E) (P : Costs → T → Type 0) → IsErr made → IfSome costs (λ k. IfOk made (P k))
+none_within None made P none = tt
+none_within (Some k) made P none = IfOk-from_err made (P k) none
+
+pub returns-in_ok-core-in-No-clause-yes : goal.returns-in_ok-core-in-No-clause-yes
+returns-in_ok-core-in-No-clause-yes g c = core_within g.J.Judge.costs
+
+pub returns-in_err-tree : goal.returns-in_err-tree
+returns-in_err-tree g c =
+    let made = c.from_residual.result in
+    let none = c.from_residual.ensures.0 in
+    let at = (goal.at.returns-in_err-tree g c).After-judged_short in
+    record {
+      cored = IfOk-from_err made _ none;
+      asked = λ turn. IfOk-from_err made _ none;
+      asked_any = λ turn. omega (arith, c.judged_short.ensures.asked);
+      most = IfOk-from_err made _ none;
+      yes = none_within g.J.Judge.costs made _ none;
+      judgements = λ turn. IfOk-from_err made _ none;
+      any = λ turn. one_of g at;
+    }
+
+pub returns-in_err-all-in-No : goal.returns-in_err-all-in-No
+returns-in_err-all-in-No g c =
+    let made = c.from_residual-in_err-all-in-No.result in
+    let none = c.from_residual-in_err-all-in-No.ensures.0 in
+    let at = (goal.at.returns-in_err-all-in-No g c).After-judged_short in
+    record {
+      cored = IfOk-from_err made _ none;
+      asked = λ turn. IfOk-from_err made _ none;
+      asked_any = λ turn. omega (arith, c.judged_short.ensures.asked);
+      most = IfOk-from_err made _ none;
+      yes = none_within g.J.Judge.costs made _ none;
+      judgements = λ turn. IfOk-from_err made _ none;
+      any = λ turn. one_of g at;
+    }
+
+pub returns-in_err-blamed-in-No : goal.returns-in_err-blamed-in-No
+returns-in_err-blamed-in-No g c =
+    let made = c.from_residual-in_err-blamed-in-No.result in
+    let none = c.from_residual-in_err-blamed-in-No.ensures.0 in
+    let at = (goal.at.returns-in_err-blamed-in-No g c).After-judged_short in
+    record {
+      cored = IfOk-from_err made _ none;
+      asked = λ turn. IfOk-from_err made _ none;
+      asked_any = λ turn. omega (arith, c.judged_short.ensures.asked);
+      most = IfOk-from_err made _ none;
+      yes = none_within g.J.Judge.costs made _ none;
+      judgements = λ turn. IfOk-from_err made _ none;
+      any = λ turn. one_of g at;
+    }
+
+pub returns-in_err-core-in-No-clause-cored : goal.returns-in_err-core-in-No-clause-cored
+returns-in_err-core-in-No-clause-cored g c = IfOk-from_err c.from_residual-in_err-core-in-No.result _ c.from_residual-in_err-core-in-No.ensures.0
+
+pub returns-in_err-core-in-No-clause-asked : goal.returns-in_err-core-in-No-clause-asked
+returns-in_err-core-in-No-clause-asked g c = λ turn. IfOk-from_err c.from_residual-in_err-core-in-No.result _ c.from_residual-in_err-core-in-No.ensures.0
+
+pub returns-in_err-core-in-No-clause-most : goal.returns-in_err-core-in-No-clause-most
+returns-in_err-core-in-No-clause-most g c = IfOk-from_err c.from_residual-in_err-core-in-No.result _ c.from_residual-in_err-core-in-No.ensures.0
+
+pub returns-in_err-core-in-No-clause-judgements : goal.returns-in_err-core-in-No-clause-judgements
+returns-in_err-core-in-No-clause-judgements g c = λ turn. IfOk-from_err c.from_residual-in_err-core-in-No.result _ c.from_residual-in_err-core-in-No.ensures.0
+
+pub returns-in_err-core-in-No-clause-yes : goal.returns-in_err-core-in-No-clause-yes
+returns-in_err-core-in-No-clause-yes g c = none_within g.J.Judge.costs c.from_residual-in_err-core-in-No.result _ c.from_residual-in_err-core-in-No.ensures.0

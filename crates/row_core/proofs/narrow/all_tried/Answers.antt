@@ -1,27 +1,43 @@
 use Rattle.std.proofs.Common.{◌≡◌, ◌∙◌, ◌+◌, ◌-◌, ◌<◌, ◌++◌, length, take, drop, ap, sym, subst, refl, rules, arith}
 use Rattle.std.proofs.lemmas.List.{length-append, length-drop, length-take-le}
+use Rattle.std.proofs.lemmas.Result.{IfOk-from_err}
 use Rattle.core_text.specs.Cores.{AreRowNumbers}
 use Rattle.core_text.specs.Told.{IsOrderWithout}
 use Rattle.pq_tree.specs.Outline.{leaves}
 use Rattle.pq_tree.specs.PqTree.{outline}
-use Rattle.row_core.specs.Blamed.{IsBlamed, AreNeeded, AreTold}
+use Rattle.row_core.specs.Blamed.{rotated, IsBlamed, AreNeeded, AreTold}
 use Rattle.row_core.specs.declared.blamed.Blamed.{Blamed}
 use Rattle.row_core.proofs.Judgements.{none_judged, more_judged, fewer_judged, judged_within}
 use Rattle.row_core.proofs.Needed.{needed_others, needed_more, rotated_others, length-others}
 use Rattle.row_core.proofs.Numbers.{ascends_without}
 use Rattle.row_core.proofs.Rounds.{tried_all, tried_one}
 use Rattle.row_core.proofs.Told.{order_without, told_more, none_told}
-use Rattle.row_core.proofs.narrow.all_tried.Goals.{in-Ordered+in_ok-push_leaves-in-Ordered, in-Refused}
+use Rattle.row_core.proofs.narrow.all_tried.Given as given
+use Rattle.row_core.proofs.narrow.all_tried.Goals.{After-deref-in-rounds, in-Ordered+in_ok-push_leaves-in-Ordered, in-Refused}
 use Rattle.row_core.proofs.narrow.all_tried.Goals as goal
+
+-- the rows that are judged are the others, and so many of them stand behind the row that is left out
+module _ (g : given.Over) (c : After-deref-in-rounds g) where
+  pub inside : c.rounds.blamed.untried - 1 < length c.rounds.blamed.rows.items
+  inside = omega (arith, c.rounds-test.true, c.rounds.invariant.blamed.few)
+
+  pub listed : c.deref-in-rounds.result.now ≡ drop (c.rounds.blamed.untried - 1 + 1) c.rounds.blamed.rows.items ++ take (c.rounds.blamed.untried - 1) c.rounds.blamed.rows.items
+  listed =
+      let i = c.rounds.blamed.untried - 1 in
+      c.deref-in-rounds.ensures.value ∙ c.in_ok-others.ensures ∙ ap (λ xs. drop (i + 1) xs ++ take i xs) c.deref.ensures.value
+
+  pub back : c.len.result - c.rounds.blamed.untried ≡ length c.rounds.blamed.rows.items - (c.rounds.blamed.untried - 1 + 1)
+  back = omega (arith, c.len.ensures, c.rounds.blamed.rows.ok, c.rounds-test.true)
+
+  pub turned : rotated (c.len.result - c.rounds.blamed.untried) c.deref-in-rounds.result.now ≡ take (c.rounds.blamed.untried - 1) c.rounds.blamed.rows.items ++ drop (c.rounds.blamed.untried - 1 + 1) c.rounds.blamed.rows.items
+  turned = rotated_others (c.rounds.blamed.untried - 1) (c.len.result - c.rounds.blamed.untried) c.rounds.blamed.rows.items c.deref-in-rounds.result.now inside listed back
 
 pub judged-requires-clause-rows : goal.judged-requires-clause-rows
 judged-requires-clause-rows g c =
+    let at = (goal.at.judged-requires-clause-rows g c).After-deref-in-rounds in
     let set = c.rounds.blamed.rows.items in
     let i = c.rounds.blamed.untried - 1 in
-    let l : i < length set = omega (arith, c.rounds-test.true, c.rounds.invariant.blamed.few) in
-    let list : c.deref-in-rounds.result.now ≡ drop (i + 1) set ++ take i set = c.deref-in-rounds.ensures.value ∙ c.in_ok-others.ensures ∙ ap (λ xs. drop (i + 1) xs ++ take i xs) c.deref.ensures.value in
-    let size : c.len.result - c.rounds.blamed.untried ≡ length set - (i + 1) = omega (arith, c.len.ensures, c.rounds.blamed.rows.ok, c.rounds-test.true) in
-    subst (AreRowNumbers (length c.args.m.now.rows)) (sym (rotated_others i _ set _ l list size))
+    subst (AreRowNumbers (length c.args.m.now.rows)) (sym (turned g at))
     (ascends_without (length c.args.m.now.rows) 0 i (i + 1) set (omega arith) c.rounds.invariant.blamed.rows)
 
 pub rounds-init : goal.rounds-init
@@ -37,12 +53,12 @@ rounds-init g c = record {
 
 pub rounds-smaller : goal.rounds-smaller
 rounds-smaller g c =
+    let at = (goal.at.rounds-smaller g c).After-deref-in-rounds in
     let set = c.rounds.blamed.rows.items in
     let i = c.rounds.blamed.untried - 1 in
-    let l : i < length set = omega (arith, c.rounds-test.true, c.rounds.invariant.blamed.few) in
-    let list : c.deref-in-rounds.result.now ≡ drop (i + 1) set ++ take i set = c.deref-in-rounds.ensures.value ∙ c.in_ok-others.ensures ∙ ap (λ xs. drop (i + 1) xs ++ take i xs) c.deref.ensures.value in
-    let size : c.len.result - c.rounds.blamed.untried ≡ length set - (i + 1) = omega (arith, c.len.ensures, c.rounds.blamed.rows.ok, c.rounds-test.true) in
-    let rotated_is = rotated_others i _ set _ l list size in
+    let l = inside g at in
+    let size = back g at in
+    let rotated_is = turned g at in
     elim c.match-branch-3.branch [
       | in-Ordered+in_ok-push_leaves-in-Ordered w ↦ omega (arith, ap (λ (b : Blamed). b.untried) w.blamed-is, c.rounds-test.true)
       | in-Refused w ↦
@@ -52,14 +68,15 @@ rounds-smaller g c =
 
 pub rounds-preserved : goal.rounds-preserved
 rounds-preserved g c =
+    let at = (goal.at.rounds-preserved g c).After-deref-in-rounds in
     let m = c.args.m.now in
     let set = c.rounds.blamed.rows.items in
     let i = c.rounds.blamed.untried - 1 in
     let next : i + 1 ≡ c.rounds.blamed.untried = omega (arith, c.rounds-test.true) in
-    let l : i < length set = omega (arith, c.rounds-test.true, c.rounds.invariant.blamed.few) in
-    let list : c.deref-in-rounds.result.now ≡ drop (i + 1) set ++ take i set = c.deref-in-rounds.ensures.value ∙ c.in_ok-others.ensures ∙ ap (λ xs. drop (i + 1) xs ++ take i xs) c.deref.ensures.value in
-    let size : c.len.result - c.rounds.blamed.untried ≡ length set - (i + 1) = omega (arith, c.len.ensures, c.rounds.blamed.rows.ok, c.rounds-test.true) in
-    let rotated_is = rotated_others i _ set _ l list size in
+    let l = inside g at in
+    let list = listed g at in
+    let size = back g at in
+    let rotated_is = turned g at in
     elim c.match-branch-3.branch [
       | in-Ordered+in_ok-push_leaves-in-Ordered w ↦
           let t = w.in-Ordered.tree in
@@ -175,5 +192,68 @@ pub judged-requires-clause-needed : goal.judged-requires-clause-needed
 judged-requires-clause-needed g c =
     let set = c.rounds.blamed.rows.items in
     let i = c.rounds.blamed.untried - 1 in
-    let list = c.deref-in-rounds.ensures.value ∙ c.in_ok-others.ensures ∙ ap (λ xs. drop (i + 1) xs ++ take i xs) c.deref.ensures.value in
+    let list = listed g (goal.at.judged-requires-clause-needed g c).After-deref-in-rounds in
     omega (arith, ap length list, length-append (drop (i + 1) set) (take i set), length-drop (i + 1) set, c.len.ensures, c.rounds.blamed.rows.ok, c.rounds-test.true)
+
+pub returns-in_err-others-clause-narrowed : goal.returns-in_err-others-clause-narrowed
+returns-in_err-others-clause-narrowed g c = IfOk-from_err c.from_residual.result _ c.from_residual.ensures.0
+
+pub returns-in_err-others-clause-few : goal.returns-in_err-others-clause-few
+returns-in_err-others-clause-few g c = IfOk-from_err c.from_residual.result _ c.from_residual.ensures.0
+
+pub returns-in_err-others-clause-needed : goal.returns-in_err-others-clause-needed
+returns-in_err-others-clause-needed g c = λ turn start. IfOk-from_err c.from_residual.result _ c.from_residual.ensures.0
+
+pub returns-in_err-others-clause-asked : goal.returns-in_err-others-clause-asked
+returns-in_err-others-clause-asked g c = IfOk-from_err c.from_residual.result _ c.from_residual.ensures.0
+
+pub returns-in_err-others-clause-judgements : goal.returns-in_err-others-clause-judgements
+returns-in_err-others-clause-judgements g c = IfOk-from_err c.from_residual.result _ c.from_residual.ensures.0
+
+pub returns-in_err-tree-clause-narrowed : goal.returns-in_err-tree-clause-narrowed
+returns-in_err-tree-clause-narrowed g c = IfOk-from_err c.from_residual-in_err-tree.result _ c.from_residual-in_err-tree.ensures.0
+
+pub returns-in_err-tree-clause-few : goal.returns-in_err-tree-clause-few
+returns-in_err-tree-clause-few g c = IfOk-from_err c.from_residual-in_err-tree.result _ c.from_residual-in_err-tree.ensures.0
+
+pub returns-in_err-tree-clause-needed : goal.returns-in_err-tree-clause-needed
+returns-in_err-tree-clause-needed g c = λ turn start. IfOk-from_err c.from_residual-in_err-tree.result _ c.from_residual-in_err-tree.ensures.0
+
+pub returns-in_err-tree-clause-asked : goal.returns-in_err-tree-clause-asked
+returns-in_err-tree-clause-asked g c = IfOk-from_err c.from_residual-in_err-tree.result _ c.from_residual-in_err-tree.ensures.0
+
+pub returns-in_err-tree-clause-judgements : goal.returns-in_err-tree-clause-judgements
+returns-in_err-tree-clause-judgements g c = IfOk-from_err c.from_residual-in_err-tree.result _ c.from_residual-in_err-tree.ensures.0
+
+pub returns-in_err-push_leaves-in-Ordered-clause-narrowed : goal.returns-in_err-push_leaves-in-Ordered-clause-narrowed
+returns-in_err-push_leaves-in-Ordered-clause-narrowed g c = IfOk-from_err c.from_residual-in_err-push_leaves-in-Ordered.result _ c.from_residual-in_err-push_leaves-in-Ordered.ensures.0
+
+pub returns-in_err-push_leaves-in-Ordered-clause-few : goal.returns-in_err-push_leaves-in-Ordered-clause-few
+returns-in_err-push_leaves-in-Ordered-clause-few g c = IfOk-from_err c.from_residual-in_err-push_leaves-in-Ordered.result _ c.from_residual-in_err-push_leaves-in-Ordered.ensures.0
+
+pub returns-in_err-push_leaves-in-Ordered-clause-needed : goal.returns-in_err-push_leaves-in-Ordered-clause-needed
+returns-in_err-push_leaves-in-Ordered-clause-needed g c = λ turn start. IfOk-from_err c.from_residual-in_err-push_leaves-in-Ordered.result _ c.from_residual-in_err-push_leaves-in-Ordered.ensures.0
+
+pub returns-in_err-push_leaves-in-Ordered-clause-asked : goal.returns-in_err-push_leaves-in-Ordered-clause-asked
+returns-in_err-push_leaves-in-Ordered-clause-asked g c = IfOk-from_err c.from_residual-in_err-push_leaves-in-Ordered.result _ c.from_residual-in_err-push_leaves-in-Ordered.ensures.0
+
+pub returns-in_err-push_leaves-in-Ordered-clause-judgements : goal.returns-in_err-push_leaves-in-Ordered-clause-judgements
+returns-in_err-push_leaves-in-Ordered-clause-judgements g c = IfOk-from_err c.from_residual-in_err-push_leaves-in-Ordered.result _ c.from_residual-in_err-push_leaves-in-Ordered.ensures.0
+
+pub returns-in_err-others-clause-asked_any : goal.returns-in_err-others-clause-asked_any
+returns-in_err-others-clause-asked_any g c = omega (arith, c.rounds.invariant.asked_most, c.rounds.invariant.few, c.requires.few)
+
+pub returns-in_err-tree-clause-asked_any : goal.returns-in_err-tree-clause-asked_any
+returns-in_err-tree-clause-asked_any g c = omega (arith, c.judged.ensures.asked, c.rounds.invariant.asked c.rounds-test.true, c.rounds-test.true, c.rounds.invariant.few, c.rounds.invariant.blamed.few, c.requires.few)
+
+pub returns-in_err-push_leaves-in-Ordered-clause-asked_any : goal.returns-in_err-push_leaves-in-Ordered-clause-asked_any
+returns-in_err-push_leaves-in-Ordered-clause-asked_any g c = omega (arith, c.judged.ensures.asked, c.rounds.invariant.asked c.rounds-test.true, c.rounds-test.true, c.rounds.invariant.few, c.rounds.invariant.blamed.few, c.requires.few)
+
+pub returns-clause-few : goal.returns-clause-few
+returns-clause-few g c = c.rounds.invariant.few
+
+pub returns-clause-asked : goal.returns-clause-asked
+returns-clause-asked g c = omega (arith, c.rounds.invariant.asked_most)
+
+pub returns-clause-asked_any : goal.returns-clause-asked_any
+returns-clause-asked_any g c = omega (arith, c.rounds.invariant.asked_most, c.rounds.invariant.few, c.requires.few)

@@ -1,13 +1,14 @@
 use Rattle.std.proofs.Common.{◌≡◌, ◌∙◌, ◌+◌, ◌-◌, ◌<◌, ◌++◌, [], length, take, drop, get_or, ap, sym, subst, refl, arith}
 use Rattle.std.proofs.lemmas.List.{append-nil}
 use Rattle.std.proofs.lemmas.Option.{get_or_from_slice_get}
+use Rattle.std.proofs.lemmas.Result.{IfOk-from_err}
 use Rattle.row_judge.specs.Costs.{AreJudgements}
 use Rattle.core_text.specs.Cores.{AreRowNumbers}
 use Rattle.core_text.specs.Told.{IsOrderWithout}
 use Rattle.pq_tree.specs.Outline.{leaves}
 use Rattle.pq_tree.specs.PqTree.{outline}
 use Rattle.row_core.specs.Blamed.{rotated}
-use Rattle.row_core.proofs.Judgements.{more_judged, fewer_judged}
+use Rattle.row_core.proofs.Judgements.{none_judged, more_judged, fewer_judged}
 use Rattle.row_core.proofs.Needed.{length-others, needed_valid}
 use Rattle.row_core.proofs.Numbers.{ascends_without}
 use Rattle.row_core.proofs.Told.{order_without, order_more}
@@ -85,3 +86,56 @@ returns-in_err-tree-clause-judgements g c = within g (goal.at.returns-in_err-tre
 
 pub returns-in_err-push_leaves-in-Ordered-clause-judgements : goal.returns-in_err-push_leaves-in-Ordered-clause-judgements
 returns-in_err-push_leaves-in-Ordered-clause-judgements g c = within g (goal.at.returns-in_err-push_leaves-in-Ordered-clause-judgements g c).After-judged
+
+pub loop-i-init : goal.loop-i-init
+loop-i-init g c = record {
+  count = ap length c.new-orders.ensures;
+  orders = λ j l. absurd (omega (arith, l));
+  asked = omega arith;
+  judgements = none_judged g.J.Judge.costs c.args.m.now c.args.steps.now;
+}
+
+pub returns-clause-tried : goal.returns-clause-tried
+returns-clause-tried g c =
+    let all : c.loop-i.i ≡ length c.args.set.now.rows.items = omega (arith, c.loop-i.auto.i-end, c.loop-i-test.false, c.args.set.now.rows.ok) in
+    (c.loop-i.invariant.count ∙ all, λ i l. c.loop-i.invariant.orders i (omega (arith, l, all)))
+
+pub returns-clause-asked : goal.returns-clause-asked
+returns-clause-asked g c = omega (arith, c.loop-i.invariant.asked, c.loop-i.auto.i-end, c.len-i-end.ensures, c.args.set.now.rows.ok)
+
+pub returns-clause-judgements : goal.returns-clause-judgements
+returns-clause-judgements g c =
+    fewer_judged g.J.Judge.costs c.args.m.now c.loop-i.i (length c.args.set.now.rows.items) c.args.steps.now c.loop-i.steps (omega (arith, c.loop-i.auto.i-end, c.len-i-end.ensures, c.args.set.now.rows.ok)) c.loop-i.invariant.judgements
+
+pub judged-requires-clause-needed : goal.judged-requires-clause-needed
+judged-requires-clause-needed g c = omega arith
+
+pub without-requires : goal.without-requires
+without-requires g c = omega (arith, c.loop-i-test.true, c.len-i-end.ensures, c.args.set.now.rows.ok, ap length c.deref.ensures.value)
+
+pub returns-in_err-push-clause-tried : goal.returns-in_err-push-clause-tried
+returns-in_err-push-clause-tried g c = IfOk-from_err c.from_residual.result _ c.from_residual.ensures.0
+
+pub returns-in_err-others-clause-tried : goal.returns-in_err-others-clause-tried
+returns-in_err-others-clause-tried g c = IfOk-from_err c.from_residual-in_err-others.result _ c.from_residual-in_err-others.ensures.0
+
+pub returns-in_err-tree-clause-tried : goal.returns-in_err-tree-clause-tried
+returns-in_err-tree-clause-tried g c = IfOk-from_err c.from_residual-in_err-tree.result _ c.from_residual-in_err-tree.ensures.0
+
+pub returns-in_err-push_leaves-in-Ordered-clause-tried : goal.returns-in_err-push_leaves-in-Ordered-clause-tried
+returns-in_err-push_leaves-in-Ordered-clause-tried g c = IfOk-from_err c.from_residual-in_err-push_leaves-in-Ordered.result _ c.from_residual-in_err-push_leaves-in-Ordered.ensures.0
+
+pub returns-in_err-push-clause-asked : goal.returns-in_err-push-clause-asked
+returns-in_err-push-clause-asked g c = omega (arith, c.loop-i.invariant.asked, c.loop-i-test.true, c.len-i-end.ensures, c.args.set.now.rows.ok)
+
+pub returns-in_err-others-clause-asked : goal.returns-in_err-others-clause-asked
+returns-in_err-others-clause-asked g c = omega (arith, c.loop-i.invariant.asked, c.loop-i-test.true, c.len-i-end.ensures, c.args.set.now.rows.ok)
+
+pub returns-in_err-tree-clause-asked : goal.returns-in_err-tree-clause-asked
+returns-in_err-tree-clause-asked g c = omega (arith, c.loop-i.invariant.asked, c.judged.ensures.asked, c.loop-i-test.true, c.len-i-end.ensures, c.args.set.now.rows.ok)
+
+pub returns-in_err-push_leaves-in-Ordered-clause-asked : goal.returns-in_err-push_leaves-in-Ordered-clause-asked
+returns-in_err-push_leaves-in-Ordered-clause-asked g c = omega (arith, c.loop-i.invariant.asked, c.judged.ensures.asked, c.loop-i-test.true, c.len-i-end.ensures, c.args.set.now.rows.ok)
+
+pub returns-in-Refused-clause-asked : goal.returns-in-Refused-clause-asked
+returns-in-Refused-clause-asked g c = omega (arith, c.loop-i.invariant.asked, c.judged.ensures.asked, c.loop-i-test.true, c.len-i-end.ensures, c.args.set.now.rows.ok)

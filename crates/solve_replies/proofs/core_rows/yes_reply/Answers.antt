@@ -36,3 +36,6 @@ returns-clause-text c kind e =
     let valid : HasValidOrder c.args.m.now.columns c.args.m.now.rows = (leaves (outline t), (o.orders (leaves (outline t))).0 (c.leaves_law.ensures (outline t))) in
     let reply = c.in_ok-text.ensures.reply (instance_value c.args.instance.now) c.in_ok-verdict.ensures.holds in
     yes_reply kind c.args.m.now c.in_ok-text.field-0.status c.in_ok-text.field-0.text.items valid (subst (λ i. IsVerdictReply i c.in_ok-text.field-0.status c.in_ok-text.field-0.text.items) e reply)
+
+pub returns-clause-status : goal.returns-clause-status
+returns-clause-status c = refl

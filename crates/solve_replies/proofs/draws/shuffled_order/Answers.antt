@@ -54,3 +54,9 @@ returns-clause-order c = ap (λ (s : Shuffled). s.order) (sym (c.loop-i.invarian
 
 pub returns-clause-state : goal.returns-clause-state
 returns-clause-state c = ap (λ (s : Shuffled). s.state) (sym (c.loop-i.invariant.0 ∙ shuffled_done c.loop-i.i _ c.loop-i-test.false))
+
+pub returns-clause-whole : goal.returns-clause-whole
+returns-clause-whole c = c.loop-i.invariant.2
+
+pub below-j-requires : goal.below-j-requires
+below-j-requires c = omega arith

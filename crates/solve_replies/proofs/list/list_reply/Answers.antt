@@ -1,4 +1,5 @@
-use Rattle.std.proofs.Common.{◌≡◌, ℕ, List, Result, Ok, Err, inl, inr, sym, subst}
+use Rattle.std.proofs.Common.{◌≡◌, ◌⊎◌, ℕ, List, Result, Ok, Err, inl, inr, sym, subst, arith}
+use Rattle.std.proofs.lemmas.Result.{IfOk-from_err, IfOk-weaker}
 use Rattle.std.specs.Prelude.{IfOk}
 use Rattle.column_order.specs.Orders.{HasValidOrder}
 use Rattle.pq_tree.specs.declared.PqTree.{PqTree}
@@ -50,3 +51,27 @@ pub returns-in-No-clause-steps : goal.returns-in-No-clause-steps
 returns-in-No-clause-steps g c =
     made_of_matrix (λ (reply : Reply). reply.status) c.no_reply.result c.args.matrix.now 1 c.args.steps.now c.solve_matrix.new.steps c.no_reply.ensures.status
     (subst (λ (a : Judged). SolvesMatrixWithin c.args.matrix.now (answer_status a) c.args.steps.now c.solve_matrix.new.steps) c.in-No.is c.in_ok-tree.ensures.steps)
+
+pub orders_reply-requires : goal.orders_reply-requires
+orders_reply-requires g c = c.requires.count
+
+pub no_reply-requires : goal.no_reply-requires
+no_reply-requires g c = (c.columns.ensures.range.0, omega (arith, c.columns.ensures.columns, c.requires.instance.1))
+
+pub returns-in-Yes-clause-status : goal.returns-in-Yes-clause-status
+returns-in-Yes-clause-status g c =
+    IfOk-weaker c.orders_reply.result (λ reply. reply.status ≡ 0) (λ reply. (reply.status ≡ 0) ⊎ (reply.status ≡ 1)) (λ reply e. inl e) c.orders_reply.ensures.status
+
+pub returns-in-No-clause-status : goal.returns-in-No-clause-status
+returns-in-No-clause-status g c =
+    IfOk-weaker c.no_reply.result (λ reply. reply.status ≡ 1) (λ reply. (reply.status ≡ 0) ⊎ (reply.status ≡ 1)) (λ reply e. inr e) c.no_reply.ensures.status
+
+pub returns-in_err-tree : goal.returns-in_err-tree
+returns-in_err-tree g c =
+    let made = c.from_residual.result in
+    let none = c.from_residual.ensures.0 in
+    record {
+      reply = IfOk-from_err made _ none;
+      status = IfOk-from_err made _ none;
+      steps = made_of_matrix (λ (reply : Reply). reply.status) made c.args.matrix.now 6 c.args.steps.now c.solve_matrix.new.steps (IfOk-from_err made _ none) c.in_err-tree.ensures.steps;
+    }

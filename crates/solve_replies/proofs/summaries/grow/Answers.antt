@@ -1,5 +1,6 @@
 use Rattle.std.proofs.Common.{◌≡◌, ◌∙◌, ℕ, suc, ◌+◌, ◌-◌, List, [], ◌∷◌, ◌++◌, length, take, refl, sym, ap, subst, arith}
 use Rattle.std.specs.Prelude.{sum_by}
+use Rattle.std.proofs.lemmas.Result.{IfOk-from_err}
 use Rattle.column_order.specs.Orders.{HasValidOrder}
 use Rattle.column_order.proofs.Counts.{order_length}
 use Rattle.row_model.specs.Rows.{RowList}
@@ -134,3 +135,22 @@ pub returns-clause-steps : goal.returns-clause-steps
 returns-clause-steps g c =
     let so = c.loop-k.invariant.grown in
     taken_within (generated c.args.seed c.args.columns c.args.rows) c.args.steps.now c.loop-k.steps (omega (arith, so.holds.total, done_steps _ c.args.columns _ _ _ _ _ _ so))
+
+-- before a row is taken
+pub returns-in_err-drawn : goal.returns-in_err-drawn
+returns-in_err-drawn g c =
+    let made = c.from_residual.result in
+    let none = c.from_residual.ensures.0 in
+    record { tree = IfOk-from_err made _ none; ones = IfOk-from_err made _ none; steps = made_within (λ made. 0) (λ made. refl) made (generated c.args.seed c.args.columns c.args.rows) c.args.steps.now c.args.steps.now (omega arith) }
+
+pub returns-in_err-reducer : goal.returns-in_err-reducer
+returns-in_err-reducer g c =
+    let made = c.from_residual-in_err-reducer.result in
+    let none = c.from_residual-in_err-reducer.ensures.0 in
+    record { tree = IfOk-from_err made _ none; ones = IfOk-from_err made _ none; steps = made_within (λ made. 0) (λ made. refl) made (generated c.args.seed c.args.columns c.args.rows) c.args.steps.now c.args.steps.now (omega arith) }
+
+pub returns-in_err-row : goal.returns-in_err-row
+returns-in_err-row g c =
+    let made = c.from_residual-in_err-row.result in
+    let none = c.from_residual-in_err-row.ensures.0 in
+    record { tree = IfOk-from_err made _ none; ones = IfOk-from_err made _ none; steps = made_within (λ made. 0) (λ made. refl) made (generated c.args.seed c.args.columns c.args.rows) c.args.steps.now c.args.steps.now (omega arith) }

@@ -2,6 +2,7 @@
 use Rattle.std.proofs.Common.{◌≡◌, ℕ, List, length, sym, subst, arith}
 use Rattle.row_model.specs.declared.graph.Line.{Line}
 use Rattle.row_judge.specs.Judges.{IsFirstConflict}
+use Rattle.row_judge.specs.declared.Judged.{Judged}
 use Rattle.row_judge.specs.declared.Judged.TheVariants.{No}
 use Rattle.c1p_solve.specs.Answers.{IsAnswer, IsInTurn}
 use Rattle.verdict_text.specs.Verdict.{no_claim}
@@ -9,7 +10,7 @@ use Rattle.instance_model.specs.Instance.{InstanceValue, instance_columns, deriv
 use Rattle.instance_model.specs.Value.{instance_value}
 use Rattle.verdict_replies.specs.Verdicts.{HasOrder, IsFirstWithout, IsClaimOf}
 use Rattle.std.proofs.lemmas.Result.{IfOk-from_err}
-use Rattle.solve_replies.specs.Steps.{part_status}
+use Rattle.solve_replies.specs.Steps.{part_status, answer_status, SolvesMatrixWithin}
 use Rattle.solve_replies.proofs.Centres.{unmade_within}
 use Rattle.solve_replies.proofs.verdicts.two_sided.Goals as goal
 
@@ -43,3 +44,11 @@ returns-in_err-second_order-in-Yes g c =
     let made = c.from_residual-in_err-second_order-in-Yes.result in
     let none = c.from_residual-in_err-second_order-in-Yes.ensures in
     record { claim = IfOk-from_err made _ none.0; steps = unmade_within part_status made _ (derived_matrix (instance_value c.args.instance.now) 2) c.args.steps.now c.solve_side.new.steps none.1 c.solve_side.ensures.steps.most }
+
+pub returns-in-No-clause-steps : goal.returns-in-No-clause-steps
+returns-in-No-clause-steps g c =
+    subst (λ (a : Judged). SolvesMatrixWithin (derived_matrix (instance_value c.args.instance.now) 2) (answer_status a) c.args.steps.now c.solve_side.new.steps) c.in-No.is c.in_ok-cycle.ensures.steps
+
+pub returns-in_ok-second_order-in-Yes-clause-steps : goal.returns-in_ok-second_order-in-Yes-clause-steps
+returns-in_ok-second_order-in-Yes-clause-steps g c =
+    subst (λ (a : Judged). SolvesMatrixWithin (derived_matrix (instance_value c.args.instance.now) 2) (answer_status a) c.args.steps.now c.solve_side.new.steps) c.in-Yes.is c.in_ok-cycle.ensures.steps

@@ -1,6 +1,7 @@
-use Rattle.std.proofs.Common.{length, sym, ap, subst, arith}
+use Rattle.std.proofs.Common.{◌∙◌, length, sym, ap, subst, arith}
 use Rattle.column_order.specs.Orders.{IsOrder}
 use Rattle.column_order.proofs.Counts.{order_length}
+use Rattle.solve_replies.specs.Generated.{hidden}
 use Rattle.solve_replies.proofs.draws.DrawnRows.new.Goals as goal
 
 pub positions-requires-clause-order : goal.positions-requires-clause-order
@@ -12,3 +13,8 @@ positions-requires-clause-order c =
 pub positions-requires-clause-few : goal.positions-requires-clause-few
 positions-requires-clause-few c =
     omega (arith, ap length c.deref.ensures.value, order_length c.args.columns c.in_ok-order.order.items c.in_ok-order.ensures.whole, c.requires)
+
+pub returns-clause-hidden : goal.returns-clause-hidden
+returns-clause-hidden c =
+    let all = hidden c.args.seed c.args.columns in
+    ap (λ xs. record { order = xs; state = c.shuffled_order.new.draws.state }) c.in_ok-order.ensures.order ∙ ap (λ x. record { order = all.order; state = x }) c.in_ok-order.ensures.state

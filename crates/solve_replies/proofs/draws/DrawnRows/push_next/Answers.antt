@@ -60,3 +60,17 @@ returns-clause-ok c =
     ap (drawn (length o)) (c.below-q.ensures.state ∙ ap next_state c.below-p.ensures.state) in
     let is : row ≡ drawn_row o x = listed_run c.args.m.now.columns o ps row ready.is_order ready.are p q run ∙ ap (λ k. run_of o k q) first ∙ ap (run_of o (drawn (length o) (next_state x))) second in
     subst (λ r. OnOk c.push_row.result (c.push_row.new.self ≡ record { columns = c.args.m.now.columns; rows = c.args.m.now.rows ++ r ∷ [] })) is c.push_row.ensures.ok
+
+pub below-p-requires : goal.below-p-requires
+below-p-requires c = c.columns-columns.ensures.range.0
+
+pub below-q-requires : goal.below-q-requires
+below-q-requires c = c.columns-columns.ensures.range.0
+
+pub returns-clause-ready : goal.returns-clause-ready
+returns-clause-ready c =
+    let ready = c.requires.ready in
+    let w : List ℕ = c.list_run-count.new.row in
+    let xs = c.args.self.now.row.items in
+    let long : length w ≡ length xs = omega (arith, c.list_run-count.auto.row, ap length c.deref_mut.ensures.value) in
+    record { is_order = ready.is_order; are = ready.are; room = ap length (written_back w xs c.args.self.now.row.len long (omega (arith, long, c.args.self.now.row.ok.0))) ∙ long ∙ ready.room }
