@@ -1,4 +1,5 @@
 use Rattle.std.proofs.Common.{◌≤◌, inl, inr, arith}
+use Rattle.std.proofs.lemmas.Grind.{common_steps}
 use Rattle.open_gaps.proofs.gap.cover.Goals as goal
 
 pub returns-clause-outside : goal.returns-clause-outside
@@ -10,3 +11,6 @@ returns-clause-outside c =
           let upper : c.loop-q.q ≤ q = omega (arith, r, c.loop-q.auto.q-end, c.requires.0) in
           c.loop-q.invariant.outside q d (inr upper)
     ]
+
+pub loop-q-preserved : goal.loop-q-preserved
+loop-q-preserved c = grind (arith, common_steps)
