@@ -76,8 +76,8 @@ UNLENT = {"bound_tree": ("is_complete", "is_complete_by"), "verdict_check": ("ch
 GAP_LOOKS = ("bound_tree", "is_open", re.compile(r"(?:\.(?:is_open|is_at_open_gap|before|behind)|OpenGaps::(?!new\b)\w+)\("))
 # How often the functions of the judge look at a row, or have it looked at, beside the steps that they count for it; and the files of calls that
 # count none.
-JUDGE_LOOKS = {"is_textbook_order": 1, "keeps_turned": 2, "first_broken_row": 1, "holds": 1, "count_rows": 1}
-JUDGE_ASKS = re.compile(r"(?:\.|\bMatrix::)(?:keeps|row|has|row_len|ones)\(|\b(?:span_of|is_kept|row_has|keeps_turned)\(")
+JUDGE_LOOKS = {"is_textbook_order": 2, "first_broken_row": 1, "holds": 1, "count_rows": 1}
+JUDGE_ASKS = re.compile(r"(?:\.|\bMatrix::)(?:keeps|row|has|row_len|ones)\(|\b(?:span_of|is_kept|row_has)\(")
 UNCOUNTED_FILES = ("core_check.rt", "holds.rt", "unit.rt")
 STEPPED = ["bubble_pass", "full_pass", "templates_p", "templates_q", "row_reduce"]
 WITHOUT_MEMORY = ["pq_arena"] + STEPPED

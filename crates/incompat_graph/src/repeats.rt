@@ -41,8 +41,8 @@ pub fn without_repeats(alloc: Global, lines: &[Line]) -> Result<Vec<Line>, NoMem
     closed(path, end, turned)
 }
 
-// The place, and whether the pair stands there turned, where the path has the two columns there; else the length of the
-// path.
+// Where on the path the two columns of the pair stand, and whether turned: at this place or nowhere. Then it is the end of
+// the path, not turned.
 fn place_on(path: &[Line], place: usize, v: Pair) -> (usize, bool)
     ensures { result.0 ≤ length path.now }
 {

@@ -150,26 +150,6 @@ fn is_textbook_order<L: Ledger>(
         return Ok(false);
     }
     count_rows(derived, steps);
-    keeps_turned(alloc, instance, derived, order)
-}
-
-// Whether an order of the columns, turned first where it is circular, keeps each derived row: whether it is a textbook
-// order.
-fn keeps_turned(
-    alloc: Global,
-    instance: &Instance,
-    derived: &Matrix,
-    order: &[u32],
-) -> Result<bool, NoMemory>
-    requires formed { IsWellFormed (instance_value instance.now) }
-    requires order { IsOrder derived.now.columns order.now }
-    ensures { IfOk result (λ yes. (side : ℕ) →
-        IsSideOf (instance_value instance.now) side →
-        derived.now ≡ derived_matrix (instance_value instance.now) side →
-        IsTrue yes ↔ IsTextbookOrder (instance_value instance.now) side order.now) }
-{
-    textbook_law();
-    circular_law();
     match instance {
         Instance::Circular(_) => derived.keeps(&turned(alloc, order)?),
         _ => derived.keeps(order),
