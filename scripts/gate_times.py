@@ -81,8 +81,9 @@ def edit_of(pid, task):
 
 
 def descendants(top):
-    """The processes below one, with their processor seconds, without those of their children."""
-    parents, seconds = {}, {}
+    """The processes below one, by number and moment of their start, with their processor seconds, without those of their children. A number
+    is given again once its process has ended."""
+    parents, seconds, starts = {}, {}, {}
     for name in filter(str.isdigit, os.listdir("/proc")):
         try:
             with open(f"/proc/{name}/stat", encoding="utf-8", errors="replace") as stream:
@@ -91,12 +92,13 @@ def descendants(top):
             continue
         parents[int(name)] = int(fields[1])
         seconds[int(name)] = (int(fields[11]) + int(fields[12])) / TICKS
+        starts[int(name)] = int(fields[19])
     found, grown = {top}, True
     while grown:
         below = {pid for pid, parent in parents.items() if parent in found} - found
         found |= below
         grown = bool(below)
-    return {pid: seconds[pid] for pid in found if pid in seconds}
+    return {(pid, starts[pid]): seconds[pid] for pid in found if pid in seconds}
 
 
 def watch(process, looks):
@@ -104,16 +106,17 @@ def watch(process, looks):
     begun = time.monotonic()
     while process.poll() is None:
         now = time.monotonic() - begun
-        for pid, seconds in descendants(process.pid).items():
+        for key, seconds in descendants(process.pid).items():
+            pid = key[0]
             try:
-                look = looks.get(pid)
+                look = looks.get(key)
                 if look is None:
                     task = task_of(pid)
                     look = Look(task, edit_of(pid, task), now)
             except OSError:
                 continue
             if look.task:
-                looks[pid] = look
+                looks[key] = look
                 look.last, look.seconds = now, seconds
         time.sleep(SECONDS_BETWEEN_LOOKS)
 

@@ -66,7 +66,7 @@ from loops import HEADS, IN_PLACE, PATH_SAMPLES, RECALLED, SAMPLE_LISTS, SAMPLES
 
 HOME = os.path.dirname(os.path.dirname(os.path.abspath(__file__)))
 # The crates whose definitions everything shares; docs/DECISIONS.md says why they offer their lemmas too.
-SHARED_PROOFS = {"column_order", "plain_text", "text_parts", "row_model", "pair_classes", "text_lines", "pq_tree", "tied_law", "template_theory", "row_core", "arena_model", "template_model"}
+SHARED_PROOFS = {"column_order", "plain_text", "text_parts", "core_text", "row_model", "pair_classes", "text_lines", "pq_tree", "tied_law", "template_theory", "row_core", "arena_model", "template_model"}
 COUNTERS = {"step_count", "bubble_bench", "order_example"}
 # The functions of the top call that make the counter of a run.
 RUN_COUNTER = {"run", "run_from"}

@@ -18,7 +18,8 @@ use Rattle.tied_law.specs.Laws.{TiedLaw, UniversalLaw, SameFrontiersLaw}
 use Rattle.template_theory.specs.Laws.{KeptLaw, ExistsLaw}
 use Rattle.template_theory.proofs.Measures.{universal_measure}
 use Rattle.core_text.specs.Cores.{rows_at, but, IsCore}
-use Rattle.row_core.proofs.Numbers.{within_at, but_at}
+use Rattle.core_text.proofs.LeftOut.{but_at}
+use Rattle.row_core.proofs.Numbers.{within_at}
 use Rattle.row_core.proofs.Needed.{AreIn, valid_few, some_valid_few, but_has}
 use Rattle.core_size.specs.Slack.{slack}
 use Rattle.core_size.specs.Laws.{NarrowsLaw}

@@ -1,4 +1,5 @@
 pub mod Masked
+pub mod LeftOut
 pub mod OrderLemmas
 pub mod EntryLaws
 pub mod CoreLaws

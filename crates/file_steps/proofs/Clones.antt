@@ -12,7 +12,7 @@ use Rattle.text_lines.specs.Rows.{refusal_or}
 use Rattle.matrix_read.specs.Clones.{reading, values_of, values_at, as_strings, probes_in, column_of, clones_refused, row_of_probes, head_code, clones_over, value_read, clones}
 use Rattle.command_input.specs.Instances.{IfRead}
 use Rattle.file_steps.proofs.Dense.{AreFew}
-use Rattle.file_steps.proofs.Few.{filter_few}
+use Rattle.column_order.proofs.Few.{filter_few}
 use Rattle.file_steps.proofs.Found.{within_read, refused_read}
 use Rattle.file_steps.proofs.Lines.{unmarked_short}
 use Rattle.file_steps.proofs.Values.{size, items_size, IsSmall, kept_small, read_small, value_within}

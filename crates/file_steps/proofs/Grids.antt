@@ -5,7 +5,7 @@ use Rattle.std.proofs.lemmas.Bool.{cases_eq, both_ways}
 use Rattle.std.proofs.lemmas.List.Sums.{sum_by-cons}
 use Rattle.row_model.specs.Rows.{columns_where}
 use Rattle.row_model.proofs.Columns.{columns_same}
-use Rattle.file_steps.proofs.Few.{filter_or, filter_one}
+use Rattle.column_order.proofs.Few.{filter_or, filter_one}
 
 -- of n rows from one on, and 1 to c in each
 abbrev pub grid : (ℕ → ℕ → Bool) → ℕ → ℕ → ℕ → ℕ

@@ -1,6 +1,5 @@
 mod Lines
 mod Found
-mod Few
 mod Grids
 mod Records
 mod Values

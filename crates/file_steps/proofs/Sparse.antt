@@ -11,7 +11,7 @@ use Rattle.text_lines.specs.Rows.{first_refusal, columns_among}
 use Rattle.text_lines.specs.Words.{words_of, number_after, numbers_in}
 use Rattle.matrix_read.specs.Sparse.{line_code, named_matrix, named_rows, sparse}
 use Rattle.command_input.specs.Instances.{IfRead}
-use Rattle.file_steps.proofs.Few.{filter_few}
+use Rattle.column_order.proofs.Few.{filter_few}
 use Rattle.file_steps.proofs.Found.{within_read, refused_read, head_read}
 use Rattle.file_steps.proofs.Lines.{line_room, numbered_short, words_short}
 

@@ -7,8 +7,8 @@ use Rattle.column_order.proofs.Lists.{has_cases, has_head, has_tail, has_append_
 use Rattle.row_model.specs.Graph.{row_at}
 use Rattle.row_model.specs.Rows.{RowList}
 use Rattle.core_text.specs.Cores.{AreRowNumbers, rows_at, but}
+use Rattle.core_text.proofs.LeftOut.{but_at}
 use Rattle.row_core.specs.Blamed.{rotated, marked_from, AreNeeded}
-use Rattle.row_core.proofs.Numbers.{but_at}
 
 -- each number of the first list is in the second
 abbrev pub AreIn : List ℕ → List ℕ → Type 0

@@ -1,6 +1,5 @@
 -- Row numbers in ascending order: without some of them, without one, and all.
-use Rattle.std.proofs.Common.{◌≡◌, ◌∙◌, ℕ, zero, suc, ◌+◌, ◌-◌, ◌<◌, ◌≤◌, List, [], ◌∷◌, ◌++◌, length, take, drop, get_or, refl, sym, ap, subst, arith, eq-eqb}
-use Rattle.std.proofs.lemmas.Bool.{ne_eqb}
+use Rattle.std.proofs.Common.{◌≡◌, ◌∙◌, ℕ, zero, suc, ◌+◌, ◌-◌, ◌<◌, ◌≤◌, List, [], ◌∷◌, ◌++◌, length, take, drop, get_or, sym, ap, subst, arith}
 use Rattle.std.proofs.lemmas.List.{length-map, get_or-map, get_or_default, same_lists, length-append, length-take-le, length-drop}
 use Rattle.std.proofs.lemmas.List.FromFn.{length-range_with_len, get_or-range_with_len}
 use Rattle.std.specs.List.{range_with_len}
@@ -8,8 +7,7 @@ use Rattle.std.specs.List.Sorted.{IsStrictlyIncreasing}
 use Rattle.row_model.specs.Graph.{row_at}
 use Rattle.row_model.specs.Rows.{Ascends}
 use Rattle.row_model.proofs.Ascending.{ascends_lower}
-use Rattle.row_model.proofs.PieceLemmas.{above_low}
-use Rattle.core_text.specs.Cores.{AreRowNumbers, rows_at, but}
+use Rattle.core_text.specs.Cores.{AreRowNumbers, rows_at}
 
 -- a number at an index is one of 1 to n
 pub within_at : (n low : ℕ) (set : List ℕ) (i d : ℕ) → Ascends n low set → i < length set → (low < get_or set i d) × (get_or set i d ≤ n)
@@ -38,20 +36,6 @@ ascends_without n low zero to set l h = ascends_drop n low to set h
 ascends_without n low (suc from) zero set l h = absurd (omega arith)
 ascends_without n low (suc from) (suc to) [] l h = tt
 ascends_without n low (suc from) (suc to) (k ∷ set) l h = (h.0, h.1, ascends_without n k from to set (omega arith) h.2)
-
--- leaving out a number that is not above the low end leaves all
-but_low : (n low k : ℕ) (set : List ℕ) → Ascends n low set → k ≤ low → but k set ≡ set
-but_low n low k [] h l = refl
-but_low n low k (a ∷ set) h l = rw (ne_eqb a k (λ e. absurd (omega (arith, e, h.0)))) (ap (λ xs. a ∷ xs) (but_low n a k set h.2 (omega (arith, h.0))))
-
--- leaving out the number at an index
-pub but_at : (n low : ℕ) (set : List ℕ) (i : ℕ) → Ascends n low set → i < length set → but (get_or set i 0) set ≡ take i set ++ drop (i + 1) set
-but_at n low [] i h l = absurd (omega arith)
-but_at n low (a ∷ set) zero h l = rw (eq-eqb a a refl) (but_low n a a set h.2 (omega arith))
-but_at n low (a ∷ set) (suc i) h l =
-    let above : a < get_or set i 0 = above_low n a set i 0 h.2 (omega arith) in
-    let e : suc i + 1 ≡ suc (i + 1) = omega arith in
-    rw (ne_eqb a (get_or set i 0) (λ e. absurd (omega (arith, e, above))), e) (ap (λ xs. a ∷ xs) (but_at n a set i h.2 (omega arith)))
 
 ascends_range : (n low k : ℕ) → low + k ≤ n → Ascends n low (range_with_len (low + 1) k)
 ascends_range n low zero l = tt

@@ -16,7 +16,7 @@ use Rattle.core_text.specs.Cores.{AreRowNumbers, rows_at, but}
 use Rattle.core_text.specs.Told.{IsOrderWithout, AreAmong, TellsCore}
 use Rattle.row_core.specs.Blamed.{part_at, AreTold}
 use Rattle.core_text.specs.Laws.{BlameLaw}
-use Rattle.row_core.proofs.Numbers.{but_at}
+use Rattle.core_text.proofs.LeftOut.{but_at}
 
 -- the order of a tree of all valid orders of the rows but one
 pub order_without : (m : RowList) (set others o : List ℕ) (i : ℕ) (t : PqTree) → AreRowNumbers (length m.rows) set → i < length set → others ≡ take i set ++ drop (i + 1) set

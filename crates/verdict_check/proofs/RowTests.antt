@@ -1,14 +1,14 @@
 -- The tests of the rows of a core and of their orders.
-use Rattle.std.proofs.Common.{◌≡◌, ◌↔◌, ◌∙◌, ℕ, zero, suc, ◌+◌, ◌<◌, ◌≤◌, List, [], ◌∷◌, ◌++◌, length, take, drop, get_or, refl, sym, ap, subst, arith, eq-eqb}
+use Rattle.std.proofs.Common.{◌≡◌, ◌↔◌, ◌∙◌, ℕ, zero, suc, ◌+◌, ◌<◌, ◌≤◌, List, [], ◌∷◌, ◌++◌, length, take, drop, get_or, refl, sym, ap, subst, arith}
 use Rattle.std.specs.List.{All, AllByRecursion}
 use Rattle.std.specs.List.Sorted.{IsNonDecreasing}
-use Rattle.std.proofs.lemmas.Bool.{ne_eqb}
 use Rattle.column_order.specs.Orders.{Keeps, IsOrder, IsValidOrder}
 use Rattle.row_model.specs.Graph.{row_at}
 use Rattle.row_model.specs.Rows.{Ascends, RowList}
-use Rattle.row_model.proofs.PieceLemmas.{above_low, ascends_rises}
+use Rattle.row_model.proofs.PieceLemmas.{ascends_rises}
 use Rattle.others_kept.specs.Others.{KeepsOthers, IsValidForOthers}
 use Rattle.core_text.specs.Cores.{AreRowNumbers, rows_at, but}
+use Rattle.core_text.proofs.LeftOut.{but_at}
 
 -- of numbers from an index on, the first and the others
 pub ascends_here : (n low : ℕ) (rows : List ℕ) (i d : ℕ) → i < length rows → Ascends n low (drop i rows) → (low < get_or rows i d) × (get_or rows i d ≤ n) × Ascends n (get_or rows i d) (drop (i + 1) rows)
@@ -78,20 +78,6 @@ all_rows Q rows (x ∷ xs) h (suc k) d l = all_rows Q rows xs h.1 k d (omega ari
 rows_all : (Q : List ℕ → Type 0) (rows : List (List ℕ)) (xs : List ℕ) → All Q (rows_at rows xs) → AllByRecursion (λ k. Q (row_at rows k)) xs
 rows_all Q rows [] h = tt
 rows_all Q rows (x ∷ xs) h = (h 0 [] (omega arith), rows_all Q rows xs (λ k d l. h (suc k) d (omega arith)))
-
--- leaving out a number that is not above the low end leaves all
-but_low : (n low k : ℕ) (set : List ℕ) → Ascends n low set → k ≤ low → but k set ≡ set
-but_low n low k [] h l = refl
-but_low n low k (a ∷ set) h l = rw (ne_eqb a k (λ e. absurd (omega (arith, e, h.0)))) (ap (λ xs. a ∷ xs) (but_low n a k set h.2 (omega (arith, h.0))))
-
--- leaving out the number at an index
-but_at : (n low : ℕ) (set : List ℕ) (i : ℕ) → Ascends n low set → i < length set → but (get_or set i 0) set ≡ take i set ++ drop (i + 1) set
-but_at n low [] i h l = absurd (omega arith)
-but_at n low (a ∷ set) zero h l = rw (eq-eqb a a refl) (but_low n a a set h.2 (omega arith))
-but_at n low (a ∷ set) (suc i) h l =
-    let above : a < get_or set i 0 = above_low n a set i 0 h.2 (omega arith) in
-    let e : suc i + 1 ≡ suc (i + 1) = omega arith in
-    rw (ne_eqb a (get_or set i 0) (λ e. absurd (omega (arith, e, above))), e) (ap (λ xs. a ∷ xs) (but_at n a set i h.2 (omega arith)))
 
 but_without : (n : ℕ) (set : List ℕ) (i : ℕ) → AreRowNumbers n set → i < length set → but (get_or set i 0) set ≡ without i set
 but_without n set i h l = but_at n 0 set i h l ∙ without-parts i set l

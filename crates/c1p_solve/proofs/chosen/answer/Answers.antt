@@ -39,3 +39,9 @@ pub returns-clause-most : goal.returns-clause-most
 returns-clause-most g c =
     let light = weighs_little c.columns.result c.args.m.now.columns (outline_at c.in_ok-reducer.reducer) c.weight_law.ensures.universal c.columns.ensures.columns c.in_ok-reducer.ensures.tree in
     c.solve.ensures.most refl light
+
+pub returns-clause-reducer : goal.returns-clause-reducer
+returns-clause-reducer g c = c.in_ok-solved.ensures.reducer
+
+pub returns-clause-columns : goal.returns-clause-columns
+returns-clause-columns g c = c.solve.ensures.columns ∙ c.in_ok-reducer.ensures.columns ∙ c.columns.ensures.columns

@@ -26,3 +26,6 @@ returns-clause-total g c = λ s h. refused_total c.args.m.now c.args.k c.args.re
 
 pub returns-clause-most : goal.returns-clause-most
 returns-clause-most g c = λ s h. refused_within c.args.m.now c.args.k c.args.reducer.now s c.args.steps.now c.conflict.new.steps h c.conflict.ensures.ticks
+
+pub returns-clause-ticks : goal.returns-clause-ticks
+returns-clause-ticks g c = c.conflict.ensures.ticks

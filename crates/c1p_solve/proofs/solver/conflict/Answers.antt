@@ -24,3 +24,21 @@ returns-clause-reason g c =
     tree.tied c.in_ok-order.ensures.frontier c.in_ok-order.ensures.order in
     IfOk-weaker c.odd_cycle_along.result (IsOddCycle m.columns (take c.args.k m.rows)) (IsReason c.args.k)
     (λ lines cycle. row_blamed c.last_row_laws.ensures.first m c.args.k c.in_ok-order.order.items lines c.requires.row.0 valid cycle) c.odd_cycle_along.ensures.first_rows
+
+pub returns-clause-cycle : goal.returns-clause-cycle
+returns-clause-cycle g c = c.odd_cycle_along.ensures.cycle
+
+pub returns-clause-first_rows : goal.returns-clause-first_rows
+returns-clause-first_rows g c = c.odd_cycle_along.ensures.first_rows
+
+pub returns-clause-short : goal.returns-clause-short
+returns-clause-short g c = c.odd_cycle_along.ensures.short
+
+pub returns-clause-ticks : goal.returns-clause-ticks
+returns-clause-ticks g c = c.odd_cycle_along.ensures.ticks
+
+pub odd_cycle_along-requires-clause-row : goal.odd_cycle_along-requires-clause-row
+odd_cycle_along-requires-clause-row g c = c.requires.row
+
+pub odd_cycle_along-requires-clause-refused : goal.odd_cycle_along-requires-clause-refused
+odd_cycle_along-requires-clause-refused g c = c.requires.conflict

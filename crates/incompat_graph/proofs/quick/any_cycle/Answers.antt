@@ -10,17 +10,29 @@ use Rattle.incompat_graph.proofs.quick.any_cycle.Given as given
 use Rattle.incompat_graph.proofs.quick.any_cycle.Goals as goal
 use Rattle.incompat_graph.proofs.quick.any_cycle.Goals.{After-new, After-walk_across, After-lines}
 
+pub quick_cycle-requires-clause-row : goal.quick_cycle-requires-clause-row
+quick_cycle-requires-clause-row g c = c.requires.row
+
 pub quick_cycle-requires-clause-columns : goal.quick_cycle-requires-clause-columns
 quick_cycle-requires-clause-columns g c =
     ap (λ (o : List ℕ). length o) c.in_ok-gaps.ensures.order ∙ order_length c.args.m.now.columns c.args.order.now c.requires.order.order
+
+pub quick_cycle-requires-clause-order : goal.quick_cycle-requires-clause-order
+quick_cycle-requires-clause-order g c = c.requires.order
 
 pub walk_across-requires-clause-order : goal.walk_across-requires-clause-order
 walk_across-requires-clause-order g c =
     subst (IsValidOrder c.args.m.now.columns (take (c.args.k - 1) c.args.m.now.rows)) (sym c.in_ok-gaps.ensures.order) c.requires.order
 
+pub walk_across-requires-clause-row : goal.walk_across-requires-clause-row
+walk_across-requires-clause-row g c = c.requires.row
+
 pub walk_across-requires-clause-gaps : goal.walk_across-requires-clause-gaps
 walk_across-requires-clause-gaps g c =
     subst (λ o. AreGaps (take (c.args.k - 1) c.args.m.now.rows) o c.in_ok-gaps.gaps.gaps) (sym c.in_ok-gaps.ensures.order) c.in_ok-gaps.ensures.gaps
+
+pub walk_across-requires-clause-refused : goal.walk_across-requires-clause-refused
+walk_across-requires-clause-refused g c = c.requires.refused
 
 -- the walk that was found, by its lines and by the number of columns that was read
 found : (g : given.Over) (c : After-lines g) → IsOddWalk c.columns.result (take c.args.k c.args.m.now.rows) c.lines.result.now
@@ -31,6 +43,9 @@ found g c =
 
 pub short_cycle-requires-clause-walk : goal.short_cycle-requires-clause-walk
 short_cycle-requires-clause-walk g c = (take c.args.k c.args.m.now.rows, found g (goal.at.short_cycle-requires-clause-walk g c).After-lines)
+
+pub short_cycle-requires-clause-few : goal.short_cycle-requires-clause-few
+short_cycle-requires-clause-few g c = c.columns.ensures.range.1
 
 -- no search among all pairs has begun
 tried : (g : given.Over) (c : After-new g) (after : ℕ) → after ≤ c.new.new.steps + (2 * c.args.most - c.args.m.now.columns) →
@@ -75,18 +90,3 @@ returns-in-Some-clause-cycle g c = rw c.in-Some.is at c.in_ok-cycle.ensures.foun
 
 pub returns-in-Some-clause-short : goal.returns-in-Some-clause-short
 returns-in-Some-clause-short g c = rw c.in-Some.is at c.in_ok-cycle.ensures.short
-
-pub quick_cycle-requires-clause-row : goal.quick_cycle-requires-clause-row
-quick_cycle-requires-clause-row g c = c.requires.row
-
-pub quick_cycle-requires-clause-order : goal.quick_cycle-requires-clause-order
-quick_cycle-requires-clause-order g c = c.requires.order
-
-pub walk_across-requires-clause-row : goal.walk_across-requires-clause-row
-walk_across-requires-clause-row g c = c.requires.row
-
-pub walk_across-requires-clause-refused : goal.walk_across-requires-clause-refused
-walk_across-requires-clause-refused g c = c.requires.refused
-
-pub short_cycle-requires-clause-few : goal.short_cycle-requires-clause-few
-short_cycle-requires-clause-few g c = c.columns.ensures.range.1

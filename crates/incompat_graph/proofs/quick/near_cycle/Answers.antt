@@ -7,12 +7,8 @@ met_at_borders-requires g c = c.requires.columns
 pub checked_cycle-requires : goal.checked_cycle-requires
 checked_cycle-requires g c = c.requires.row
 
-pub returns : goal.returns
-returns g c = record {
-  found = c.checked_cycle.ensures.cycle;
-  short = c.checked_cycle.ensures.short;
-  ticks = omega (arith, c.lines_at_half.ensures.ticks, c.checked_cycle.ensures.ticks, c.checked_cycle.ensures.less);
-}
+pub returns-clause-ticks : goal.returns-clause-ticks
+returns-clause-ticks g c = omega (arith, c.lines_at_half.ensures.ticks, c.checked_cycle.ensures.ticks, c.checked_cycle.ensures.less)
 
 pub returns-in_err-met-clause-ticks : goal.returns-in_err-met-clause-ticks
 returns-in_err-met-clause-ticks g c = omega arith

@@ -4,12 +4,8 @@ use Rattle.incompat_graph.proofs.shorter.cycle_among.Goals as goal
 pub checked_cycle-requires : goal.checked_cycle-requires
 checked_cycle-requires g c = c.requires.rows
 
-pub returns : goal.returns
-returns g c = record {
-  cycle = c.checked_cycle.ensures.cycle;
-  short = c.checked_cycle.ensures.short;
-  ticks = omega (arith, c.lines_among.ensures.ticks, c.checked_cycle.ensures.ticks);
-}
+pub returns-clause-ticks : goal.returns-clause-ticks
+returns-clause-ticks g c = omega (arith, c.lines_among.ensures.ticks, c.checked_cycle.ensures.ticks)
 
 pub returns-in_err-add_lines-clause-ticks : goal.returns-in_err-add_lines-clause-ticks
 returns-in_err-add_lines-clause-ticks g c = omega arith

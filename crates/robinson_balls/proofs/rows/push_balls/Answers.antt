@@ -34,8 +34,8 @@ push_row-requires-clause-room c =
 pub loop-k-preserved : goal.loop-k-preserved
 loop-k-preserved c =
     let d = c.args.d.now in
-    let x = c.args.x in
     let near = c.in_ok-neighbours.neighbours.items in
+    let x = c.args.x in
     let k = c.loop-k.k in
     let l : k < length near = omega arith in
     elim c.if-ends_ball.branch [

@@ -144,62 +144,23 @@ none_within (Some k) made P none = IfOk-from_err made (P k) none
 pub returns-in_ok-core-in-No-clause-yes : goal.returns-in_ok-core-in-No-clause-yes
 returns-in_ok-core-in-No-clause-yes g c = core_within g.J.Judge.costs
 
-pub returns-in_err-tree : goal.returns-in_err-tree
-returns-in_err-tree g c =
-    let made = c.from_residual.result in
-    let none = c.from_residual.ensures.0 in
-    let at = (goal.at.returns-in_err-tree g c).After-judged_short in
-    record {
-      cored = IfOk-from_err made _ none;
-      asked = λ turn. IfOk-from_err made _ none;
-      asked_any = λ turn. omega (arith, c.judged_short.ensures.asked);
-      most = IfOk-from_err made _ none;
-      yes = none_within g.J.Judge.costs made _ none;
-      judgements = λ turn. IfOk-from_err made _ none;
-      any = λ turn. one_of g at;
-    }
+pub returns-in_err-tree-clause-yes : goal.returns-in_err-tree-clause-yes
+returns-in_err-tree-clause-yes g c = none_within g.J.Judge.costs c.from_residual.result _ c.from_residual.ensures.0
 
-pub returns-in_err-all-in-No : goal.returns-in_err-all-in-No
-returns-in_err-all-in-No g c =
-    let made = c.from_residual-in_err-all-in-No.result in
-    let none = c.from_residual-in_err-all-in-No.ensures.0 in
-    let at = (goal.at.returns-in_err-all-in-No g c).After-judged_short in
-    record {
-      cored = IfOk-from_err made _ none;
-      asked = λ turn. IfOk-from_err made _ none;
-      asked_any = λ turn. omega (arith, c.judged_short.ensures.asked);
-      most = IfOk-from_err made _ none;
-      yes = none_within g.J.Judge.costs made _ none;
-      judgements = λ turn. IfOk-from_err made _ none;
-      any = λ turn. one_of g at;
-    }
+pub returns-in_err-tree-clause-any : goal.returns-in_err-tree-clause-any
+returns-in_err-tree-clause-any g c = λ turn. one_of g (goal.at.returns-in_err-tree-clause-any g c).After-judged_short
 
-pub returns-in_err-blamed-in-No : goal.returns-in_err-blamed-in-No
-returns-in_err-blamed-in-No g c =
-    let made = c.from_residual-in_err-blamed-in-No.result in
-    let none = c.from_residual-in_err-blamed-in-No.ensures.0 in
-    let at = (goal.at.returns-in_err-blamed-in-No g c).After-judged_short in
-    record {
-      cored = IfOk-from_err made _ none;
-      asked = λ turn. IfOk-from_err made _ none;
-      asked_any = λ turn. omega (arith, c.judged_short.ensures.asked);
-      most = IfOk-from_err made _ none;
-      yes = none_within g.J.Judge.costs made _ none;
-      judgements = λ turn. IfOk-from_err made _ none;
-      any = λ turn. one_of g at;
-    }
+pub returns-in_err-all-in-No-clause-yes : goal.returns-in_err-all-in-No-clause-yes
+returns-in_err-all-in-No-clause-yes g c = none_within g.J.Judge.costs c.from_residual-in_err-all-in-No.result _ c.from_residual-in_err-all-in-No.ensures.0
 
-pub returns-in_err-core-in-No-clause-cored : goal.returns-in_err-core-in-No-clause-cored
-returns-in_err-core-in-No-clause-cored g c = IfOk-from_err c.from_residual-in_err-core-in-No.result _ c.from_residual-in_err-core-in-No.ensures.0
+pub returns-in_err-all-in-No-clause-any : goal.returns-in_err-all-in-No-clause-any
+returns-in_err-all-in-No-clause-any g c = λ turn. one_of g (goal.at.returns-in_err-all-in-No-clause-any g c).After-judged_short
 
-pub returns-in_err-core-in-No-clause-asked : goal.returns-in_err-core-in-No-clause-asked
-returns-in_err-core-in-No-clause-asked g c = λ turn. IfOk-from_err c.from_residual-in_err-core-in-No.result _ c.from_residual-in_err-core-in-No.ensures.0
+pub returns-in_err-blamed-in-No-clause-yes : goal.returns-in_err-blamed-in-No-clause-yes
+returns-in_err-blamed-in-No-clause-yes g c = none_within g.J.Judge.costs c.from_residual-in_err-blamed-in-No.result _ c.from_residual-in_err-blamed-in-No.ensures.0
 
-pub returns-in_err-core-in-No-clause-most : goal.returns-in_err-core-in-No-clause-most
-returns-in_err-core-in-No-clause-most g c = IfOk-from_err c.from_residual-in_err-core-in-No.result _ c.from_residual-in_err-core-in-No.ensures.0
-
-pub returns-in_err-core-in-No-clause-judgements : goal.returns-in_err-core-in-No-clause-judgements
-returns-in_err-core-in-No-clause-judgements g c = λ turn. IfOk-from_err c.from_residual-in_err-core-in-No.result _ c.from_residual-in_err-core-in-No.ensures.0
+pub returns-in_err-blamed-in-No-clause-any : goal.returns-in_err-blamed-in-No-clause-any
+returns-in_err-blamed-in-No-clause-any g c = λ turn. one_of g (goal.at.returns-in_err-blamed-in-No-clause-any g c).After-judged_short
 
 pub returns-in_err-core-in-No-clause-yes : goal.returns-in_err-core-in-No-clause-yes
 returns-in_err-core-in-No-clause-yes g c = none_within g.J.Judge.costs c.from_residual-in_err-core-in-No.result _ c.from_residual-in_err-core-in-No.ensures.0

@@ -77,15 +77,39 @@ pub returns-in_err-push-clause-judgements : goal.returns-in_err-push-clause-judg
 returns-in_err-push-clause-judgements g c =
     fewer_judged g.J.Judge.costs c.args.m.now c.loop-i.i (length c.args.set.now.rows.items) c.args.steps.now c.loop-i.steps (omega arith) c.loop-i.invariant.judgements
 
+pub returns-in_err-push-clause-tried : goal.returns-in_err-push-clause-tried
+returns-in_err-push-clause-tried g c = IfOk-from_err c.from_residual.result _ c.from_residual.ensures.0
+
+pub returns-in_err-push-clause-asked : goal.returns-in_err-push-clause-asked
+returns-in_err-push-clause-asked g c = omega (arith, c.loop-i.invariant.asked, c.loop-i-test.true, c.len-i-end.ensures, c.args.set.now.rows.ok)
+
 pub returns-in_err-others-clause-judgements : goal.returns-in_err-others-clause-judgements
 returns-in_err-others-clause-judgements g c =
     fewer_judged g.J.Judge.costs c.args.m.now c.loop-i.i (length c.args.set.now.rows.items) c.args.steps.now c.loop-i.steps (omega arith) c.loop-i.invariant.judgements
 
+pub returns-in_err-others-clause-tried : goal.returns-in_err-others-clause-tried
+returns-in_err-others-clause-tried g c = IfOk-from_err c.from_residual-in_err-others.result _ c.from_residual-in_err-others.ensures.0
+
+pub returns-in_err-others-clause-asked : goal.returns-in_err-others-clause-asked
+returns-in_err-others-clause-asked g c = omega (arith, c.loop-i.invariant.asked, c.loop-i-test.true, c.len-i-end.ensures, c.args.set.now.rows.ok)
+
 pub returns-in_err-tree-clause-judgements : goal.returns-in_err-tree-clause-judgements
 returns-in_err-tree-clause-judgements g c = within g (goal.at.returns-in_err-tree-clause-judgements g c).After-judged
 
+pub returns-in_err-tree-clause-tried : goal.returns-in_err-tree-clause-tried
+returns-in_err-tree-clause-tried g c = IfOk-from_err c.from_residual-in_err-tree.result _ c.from_residual-in_err-tree.ensures.0
+
+pub returns-in_err-tree-clause-asked : goal.returns-in_err-tree-clause-asked
+returns-in_err-tree-clause-asked g c = omega (arith, c.loop-i.invariant.asked, c.judged.ensures.asked, c.loop-i-test.true, c.len-i-end.ensures, c.args.set.now.rows.ok)
+
 pub returns-in_err-push_leaves-in-Ordered-clause-judgements : goal.returns-in_err-push_leaves-in-Ordered-clause-judgements
 returns-in_err-push_leaves-in-Ordered-clause-judgements g c = within g (goal.at.returns-in_err-push_leaves-in-Ordered-clause-judgements g c).After-judged
+
+pub returns-in_err-push_leaves-in-Ordered-clause-tried : goal.returns-in_err-push_leaves-in-Ordered-clause-tried
+returns-in_err-push_leaves-in-Ordered-clause-tried g c = IfOk-from_err c.from_residual-in_err-push_leaves-in-Ordered.result _ c.from_residual-in_err-push_leaves-in-Ordered.ensures.0
+
+pub returns-in_err-push_leaves-in-Ordered-clause-asked : goal.returns-in_err-push_leaves-in-Ordered-clause-asked
+returns-in_err-push_leaves-in-Ordered-clause-asked g c = omega (arith, c.loop-i.invariant.asked, c.judged.ensures.asked, c.loop-i-test.true, c.len-i-end.ensures, c.args.set.now.rows.ok)
 
 pub loop-i-init : goal.loop-i-init
 loop-i-init g c = record {
@@ -112,30 +136,6 @@ judged-requires-clause-needed g c = omega arith
 
 pub without-requires : goal.without-requires
 without-requires g c = omega (arith, c.loop-i-test.true, c.len-i-end.ensures, c.args.set.now.rows.ok, ap length c.deref.ensures.value)
-
-pub returns-in_err-push-clause-tried : goal.returns-in_err-push-clause-tried
-returns-in_err-push-clause-tried g c = IfOk-from_err c.from_residual.result _ c.from_residual.ensures.0
-
-pub returns-in_err-others-clause-tried : goal.returns-in_err-others-clause-tried
-returns-in_err-others-clause-tried g c = IfOk-from_err c.from_residual-in_err-others.result _ c.from_residual-in_err-others.ensures.0
-
-pub returns-in_err-tree-clause-tried : goal.returns-in_err-tree-clause-tried
-returns-in_err-tree-clause-tried g c = IfOk-from_err c.from_residual-in_err-tree.result _ c.from_residual-in_err-tree.ensures.0
-
-pub returns-in_err-push_leaves-in-Ordered-clause-tried : goal.returns-in_err-push_leaves-in-Ordered-clause-tried
-returns-in_err-push_leaves-in-Ordered-clause-tried g c = IfOk-from_err c.from_residual-in_err-push_leaves-in-Ordered.result _ c.from_residual-in_err-push_leaves-in-Ordered.ensures.0
-
-pub returns-in_err-push-clause-asked : goal.returns-in_err-push-clause-asked
-returns-in_err-push-clause-asked g c = omega (arith, c.loop-i.invariant.asked, c.loop-i-test.true, c.len-i-end.ensures, c.args.set.now.rows.ok)
-
-pub returns-in_err-others-clause-asked : goal.returns-in_err-others-clause-asked
-returns-in_err-others-clause-asked g c = omega (arith, c.loop-i.invariant.asked, c.loop-i-test.true, c.len-i-end.ensures, c.args.set.now.rows.ok)
-
-pub returns-in_err-tree-clause-asked : goal.returns-in_err-tree-clause-asked
-returns-in_err-tree-clause-asked g c = omega (arith, c.loop-i.invariant.asked, c.judged.ensures.asked, c.loop-i-test.true, c.len-i-end.ensures, c.args.set.now.rows.ok)
-
-pub returns-in_err-push_leaves-in-Ordered-clause-asked : goal.returns-in_err-push_leaves-in-Ordered-clause-asked
-returns-in_err-push_leaves-in-Ordered-clause-asked g c = omega (arith, c.loop-i.invariant.asked, c.judged.ensures.asked, c.loop-i-test.true, c.len-i-end.ensures, c.args.set.now.rows.ok)
 
 pub returns-in-Refused-clause-asked : goal.returns-in-Refused-clause-asked
 returns-in-Refused-clause-asked g c = omega (arith, c.loop-i.invariant.asked, c.judged.ensures.asked, c.loop-i-test.true, c.len-i-end.ensures, c.args.set.now.rows.ok)

@@ -44,28 +44,9 @@ returns-in_ok-shortened-in-No-clause-yes g c =
 pub returns-in_ok-shortened-in-No-clause-most : goal.returns-in_ok-shortened-in-No-clause-most
 returns-in_ok-shortened-in-No-clause-most g c = c.judge.ensures.most
 
-pub returns-in_err-tree : goal.returns-in_err-tree
-returns-in_err-tree g c =
-    let made = c.from_residual.result in
-    let none = c.from_residual.ensures.0 in
-    record {
-      judged = IfOk-from_err made _ none;
-      short = IfOk-from_err made _ none;
-      in_turn = λ turn. IfOk-from_err made _ none;
-      asked = c.judge.ensures.asked;
-      yes = none_within g.J.Judge.costs made _ none;
-      most = c.judge.ensures.most;
-    }
+pub returns-in_err-tree-clause-yes : goal.returns-in_err-tree-clause-yes
+returns-in_err-tree-clause-yes g c = none_within g.J.Judge.costs c.from_residual.result _ c.from_residual.ensures.0
 
-pub returns-in_err-shortened-in-No : goal.returns-in_err-shortened-in-No
-returns-in_err-shortened-in-No g c =
-    let made = c.from_residual-in_err-shortened-in-No.result in
-    let none = c.from_residual-in_err-shortened-in-No.ensures.0 in
-    record {
-      judged = IfOk-from_err made _ none;
-      short = IfOk-from_err made _ none;
-      in_turn = λ turn. IfOk-from_err made _ none;
-      asked = c.judge.ensures.asked;
-      yes = none_within g.J.Judge.costs made _ none;
-      most = c.judge.ensures.most;
-    }
+pub returns-in_err-shortened-in-No-clause-yes : goal.returns-in_err-shortened-in-No-clause-yes
+returns-in_err-shortened-in-No-clause-yes g c =
+    none_within g.J.Judge.costs c.from_residual-in_err-shortened-in-No.result _ c.from_residual-in_err-shortened-in-No.ensures.0

@@ -59,13 +59,13 @@ pub returns-in-Core-clause-status : goal.returns-in-Core-clause-status
 returns-in-Core-clause-status g c =
     IfOk-weaker c.core_reply.result (λ reply. reply.status ≡ 0) (λ reply. (reply.status ≡ 0) ⊎ (reply.status ≡ 1)) (λ reply e. inl e) c.core_reply.ensures.status
 
-pub returns-in-Has-clause-status : goal.returns-in-Has-clause-status
-returns-in-Has-clause-status g c =
-    IfOk-weaker c.yes_reply.result (λ reply. reply.status ≡ 1) (λ reply. (reply.status ≡ 0) ⊎ (reply.status ≡ 1)) (λ reply e. inr e) c.yes_reply.ensures.status
-
 pub yes_reply-requires : goal.yes_reply-requires
 yes_reply-requires g c = record {
   within = c.requires.within;
   matrix = (c.in-Plain.field-0, ap instance_value c.in-Plain.is);
   orders = (subst (IsCored c.in-Plain.m) c.in-Has.is c.in_ok-core.ensures.cored).0;
 }
+
+pub returns-in-Has-clause-status : goal.returns-in-Has-clause-status
+returns-in-Has-clause-status g c =
+    IfOk-weaker c.yes_reply.result (λ reply. reply.status ≡ 1) (λ reply. (reply.status ≡ 0) ⊎ (reply.status ≡ 1)) (λ reply e. inr e) c.yes_reply.ensures.status

@@ -66,12 +66,7 @@ pub returns-in-No-clause-status : goal.returns-in-No-clause-status
 returns-in-No-clause-status g c =
     IfOk-weaker c.no_reply.result (λ reply. reply.status ≡ 1) (λ reply. (reply.status ≡ 0) ⊎ (reply.status ≡ 1)) (λ reply e. inr e) c.no_reply.ensures.status
 
-pub returns-in_err-tree : goal.returns-in_err-tree
-returns-in_err-tree g c =
-    let made = c.from_residual.result in
-    let none = c.from_residual.ensures.0 in
-    record {
-      reply = IfOk-from_err made _ none;
-      status = IfOk-from_err made _ none;
-      steps = made_of_matrix (λ (reply : Reply). reply.status) made c.args.matrix.now 6 c.args.steps.now c.solve_matrix.new.steps (IfOk-from_err made _ none) c.in_err-tree.ensures.steps;
-    }
+pub returns-in_err-tree-clause-steps : goal.returns-in_err-tree-clause-steps
+returns-in_err-tree-clause-steps g c =
+    made_of_matrix (λ (reply : Reply). reply.status) c.from_residual.result c.args.matrix.now 6 c.args.steps.now c.solve_matrix.new.steps
+    (IfOk-from_err c.from_residual.result _ c.from_residual.ensures.0) c.in_err-tree.ensures.steps

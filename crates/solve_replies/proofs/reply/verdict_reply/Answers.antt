@@ -19,12 +19,7 @@ returns g c =
       steps = made_of_sides (λ (reply : Reply). reply.status) c.told.result i (verdict_status c.in_ok-verdict.verdict) c.args.steps.now c.verdict_on.new.steps c.told.ensures.claim c.in_ok-verdict.ensures.steps;
     }
 
-pub returns-in_err-verdict : goal.returns-in_err-verdict
-returns-in_err-verdict g c =
-    let made = c.from_residual.result in
-    let none = c.from_residual.ensures.0 in
-    record {
-      reply = IfOk-from_err made _ none;
-      status = IfOk-from_err made _ none;
-      steps = made_of_sides (λ (reply : Reply). reply.status) made (instance_value c.args.instance.now) 6 c.args.steps.now c.verdict_on.new.steps (IfOk-from_err made _ none) c.in_err-verdict.ensures.steps;
-    }
+pub returns-in_err-verdict-clause-steps : goal.returns-in_err-verdict-clause-steps
+returns-in_err-verdict-clause-steps g c =
+    made_of_sides (λ (reply : Reply). reply.status) c.from_residual.result (instance_value c.args.instance.now) 6 c.args.steps.now c.verdict_on.new.steps
+    (IfOk-from_err c.from_residual.result _ c.from_residual.ensures.0) c.in_err-verdict.ensures.steps

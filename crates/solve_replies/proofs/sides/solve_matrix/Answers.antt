@@ -8,9 +8,6 @@ use Rattle.solve_replies.proofs.sides.solve_matrix.Goals as goal
 pub returns-clause-answer : goal.returns-clause-answer
 returns-clause-answer g c = c.in_ok-solved.ensures.solved
 
-pub returns-clause-in_turn : goal.returns-clause-in_turn
-returns-clause-in_turn g c = c.in_ok-solved.ensures.in_turn
-
 pub returns-clause-steps : goal.returns-clause-steps
 returns-clause-steps g c =
     let found = c.in_ok-solved.field-0 in
@@ -21,3 +18,6 @@ returns-in_err-solved g c =
     let made = c.from_residual.result in
     let none = c.from_residual.ensures in
     record { answer = IfOk-from_err made _ none.0; in_turn = IfOk-from_err made _ none.0; steps = unmade_within answer_status made _ c.args.m.now c.args.steps.now c.answer.new.steps none.1 c.answer.ensures.most }
+
+pub returns-clause-in_turn : goal.returns-clause-in_turn
+returns-clause-in_turn g c = c.in_ok-solved.ensures.in_turn

@@ -50,15 +50,10 @@ returns-clause-summary g c =
     IfOk-weaker c.summary.result (λ (reply : Reply). (n : RowList) (u : Outline) → IsCounted n u c.args.columns c.args.rows c.in_ok-tree.field-0.ones c.count_nodes.new.nodes.p c.count_nodes.new.nodes.q → reply.text.items ≡ summary_text n u)
     (λ (reply : Reply). IsSummary c.args.seed c.args.columns c.args.rows reply.text.items) (λ reply told. record { tree = t; shows = shows; text_is = told m t counted }) c.summary.ensures.text
 
-pub returns-in_err-tree : goal.returns-in_err-tree
-returns-in_err-tree g c =
-    let made = c.from_residual.result in
-    let none = c.from_residual.ensures.0 in
-    record {
-      status = IfOk-from_err made _ none;
-      summary = IfOk-from_err made _ none;
-      steps = made_of_matrix (λ (reply : Reply). reply.status) made (generated c.args.seed c.args.columns c.args.rows) 6 c.args.steps.now c.grow.new.steps (IfOk-from_err made _ none) c.in_err-tree.ensures.steps;
-    }
+pub returns-in_err-tree-clause-steps : goal.returns-in_err-tree-clause-steps
+returns-in_err-tree-clause-steps g c =
+    made_of_matrix (λ (reply : Reply). reply.status) c.from_residual.result (generated c.args.seed c.args.columns c.args.rows) 6 c.args.steps.now c.grow.new.steps
+    (IfOk-from_err c.from_residual.result _ c.from_residual.ensures.0) c.in_err-tree.ensures.steps
 
 pub returns-clause-steps : goal.returns-clause-steps
 returns-clause-steps g c =

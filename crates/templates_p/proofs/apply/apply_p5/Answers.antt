@@ -13,14 +13,14 @@ child_with-line-requires g c = partial_child c.args.arena.now c.args.work.now c.
 pub gather-group-requires : goal.gather-group-requires
 gather-group-requires g c = p5_can_gather c.args.arena.now c.args.work.now c.args.node.index c.requires.ready c.requires.stands
 
-pub full_end-end-requires-clause-room : goal.full_end-end-requires-clause-room
-full_end-end-requires-clause-room g c = same_room c.args.arena.now c.gather-group.new.arena c.args.work.now c.gather-group.new.work c.args.node.index c.args.node.index
-    c.layout_law.ensures c.layout_law-2.ensures c.requires.ready.room c.gather-group.ensures.treated
-
 pub full_end-end-requires-clause-shape : goal.full_end-end-requires-clause-shape
 full_end-end-requires-clause-shape g c =
     let k = p5_partial c.args.arena.now c.args.work.now c.args.node.index c.child_with-line.result.index c.requires.stands c.child_with-line.ensures.child c.child_with-line.ensures.labelled in
     (c.requires.stands.3.1.1.h, gathered_shape c.args.arena.now c.gather-group.new.arena c.args.work.now c.gather-group.new.work c.args.node.index c.child_with-line.result.index c.gather-group.result _ _ _ k c.gather-group.ensures.gathered)
+
+pub full_end-end-requires-clause-room : goal.full_end-end-requires-clause-room
+full_end-end-requires-clause-room g c = same_room c.args.arena.now c.gather-group.new.arena c.args.work.now c.gather-group.new.work c.args.node.index c.args.node.index
+    c.layout_law.ensures c.layout_law-2.ensures c.requires.ready.room c.gather-group.ensures.treated
 
 pub fill_line-top-requires-clause-can : goal.fill_line-top-requires-clause-can
 fill_line-top-requires-clause-can g c =

@@ -1,4 +1,5 @@
 use Rattle.std.proofs.Common.{◌≡◌, ◌∙◌, ◌+◌, ◌∷◌, ◌++◌, [], ℕ, List, Vec, Global, drop, length, replicate, slice_get, Some, refl, ap, subst, arith, take, sum_by}
+use Rattle.std.proofs.lemmas.Grind.{common_steps}
 use Rattle.std.proofs.lemmas.List.{length-map, map-append, replicate_more}
 use Rattle.std.proofs.lemmas.Option.{slice_get_within}
 use Rattle.row_model.specs.Graph.{row_at}
@@ -16,7 +17,7 @@ loop-preserved g c =
     record {
       lists = ap lists_of c.in_ok-push.ensures.items ∙ pushed ∙ ap (λ (ls : List (List ℕ)). ls ++ c.new.result.items ∷ []) c.loop.invariant.lists
           ∙ ap (λ (x : List ℕ). replicate c.loop.counter none ++ x ∷ []) c.new.ensures.items ∙ replicate_more c.loop.counter none;
-      counted = omega (arith, c.loop.invariant.counted, c.tick.ensures);
+      counted = omega arith;
     }
 
 pub loop-k-init : goal.loop-k-init
@@ -112,3 +113,6 @@ returns g c =
       ticks = omega (arith, c.loop.invariant.counted, c.loop-k.invariant.counted, ones, all);
       holders = subst (λ n. AreHolders (without c.args.first c.args.m.now) n (lists_of c.loop-k.holders.items)) same c.loop-k.invariant.holders;
     }
+
+pub overflow_add-i : goal.overflow_add-i
+overflow_add-i g c = grind (arith, common_steps)

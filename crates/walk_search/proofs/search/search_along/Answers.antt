@@ -1,4 +1,4 @@
-use Rattle.std.proofs.Common.{◌≡◌, ◌∙◌, ◌+◌, ◌*◌, ◌≤◌, sum_by, [], length, take, drop, IsTrue, sym, subst, arith, ℕ}
+use Rattle.std.proofs.Common.{◌≡◌, ◌∙◌, ◌+◌, ◌*◌, ◌≤◌, sum_by, [], length, take, drop, IsTrue, sym, subst, arith}
 use Rattle.std.proofs.lemmas.List.{nil_from_length}
 use Rattle.column_order.specs.Orders.{has}
 use Rattle.row_model.specs.Graph.{row_at, HasOddWalk}

@@ -20,10 +20,10 @@ stands : (g : _) (c : goal.After-extend_run g) →
 stands g c = put_end_stands _ _ _ _ _ _ c.args.self.now c.args.q.index c.args.n.index c.args.end
     (opened c.self.inside c.args.self.now c.self.view_is c.self.invariant) c.requires.end c.requires.q c.requires.n c.requires.apart
 
-pub invariant_of-self : goal.invariant_of-self
-invariant_of-self g c = kept_by _ _ _ _ c.extend_run.ensures.links c.extend_run.ensures.heads (stands g c)
-
 pub returns-clause-changed : goal.returns-clause-changed
 returns-clause-changed g c = layout_by
     (record { nodes = c.extend_run.new.nodes; root = c.self.inside.root; spare = c.self.inside.spare; count = c.self.inside.count; columns = c.self.inside.columns })
     _ _ _ c.extend_run.ensures.links c.extend_run.ensures.heads (stands g c)
+
+pub invariant_of-self : goal.invariant_of-self
+invariant_of-self g c = kept_by _ _ _ _ c.extend_run.ensures.links c.extend_run.ensures.heads (stands g c)
