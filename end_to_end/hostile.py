@@ -34,8 +34,9 @@ ALIKE = 127
 LOOP = "for turn in range(5_000_000): pass"
 LOOP_SECONDS = 0.2
 MOST_SECONDS = 5
-# How much longer twice as much may take.
-MOST_GROWTH = 2.2
+# How many times as long twice as much may take. It takes two to two and a half times as long, by what else uses the machine's caches, and would
+# take four times if each row were compared with each other.
+MOST_GROWTH = 3
 # How long `core` may take where it needs each row of a ring, and how much longer than `solve` it may take where it needs three rows of very many,
 # beside the start of two programs.
 RING_SECONDS = 2
@@ -44,7 +45,7 @@ START_SECONDS = 0.02
 # How many times as long a file of one long line may take as one of short lines. It takes about three times as long, and would take eleven times
 # if each window were searched again from the start of the line.
 MOST_LONG = 5
-# Where two times are compared, each is the least of so many: what else the machine does makes a run dearer, and none cheaper.
+# Where two times are compared, each is the least of so many, made in turns: what else the machine does makes a run dearer, and none cheaper.
 TRIES = 3
 MOST_TIMES = 12
 # The program, the C library and the room for one read, or the small program that starts it.
@@ -277,9 +278,10 @@ def measured(words, content, given=None):
         return run_measured([PROGRAM, *words, file], given)
 
 
-def least_measured(words, content, given=None):
-    """The run that took the least time of some."""
-    return min((measured(words, content, given) for _ in range(TRIES)), key=lambda run: run[1].seconds)
+def least_measured(*runs):
+    """Of each of these runs, which are made in turns, the try that took the least time. So a slow while of the machine meets all of them."""
+    tries = [[measured(*run) for run in runs] for _ in range(TRIES)]
+    return [min(tries_of_one, key=lambda given: given[1].seconds) for tries_of_one in zip(*tries)]
 
 
 def rows_alike(count):
@@ -295,16 +297,16 @@ def rows_alike(count):
 def many_orders_problem():
     """What is wrong with how long the orders of a core are judged, or None: those of as many rows as a file has room for within the bound, and
     twice as many in about twice the time."""
-    seconds = []
-    for count in (MOST_ROWS // 2, MOST_ROWS):
-        matrix, text = rows_alike(count)
-        given, cost = least_measured(["check-core", "matrix", "-"], text, matrix)
+    counts = [MOST_ROWS // 2, MOST_ROWS]
+    files = [rows_alike(count) for count in counts]
+    runs = least_measured(*((["check-core", "matrix", "-"], text, matrix) for matrix, text in files))
+    for count, (matrix, text), (given, cost) in zip(counts, files, runs):
         print(f"a core of {count} rows that are all alike: {cost.seconds:.2f} seconds, {cost.peak} bytes at the peak for {len(matrix)} and {len(text)}", flush=True)
         problem = difference(given, (1, b"invalid join 1\n", b"")) or cost.problem(len(matrix) + len(text), BASE_BYTES)
         if problem:
             return problem
-        seconds.append(cost.seconds)
-    return None if seconds[1] <= MOST_GROWTH * seconds[0] else f"{seconds[1]:.2f} seconds after {seconds[0]:.2f}"
+    half, whole = (cost.seconds for _, cost in runs)
+    return None if whole <= MOST_GROWTH * half else f"{whole:.2f} seconds after {half:.2f}"
 
 
 def rows_file(rows):
@@ -334,7 +336,7 @@ def core_count(given):
 
 def ring_problem():
     """What is wrong with the core of a ring, or with how long it takes, or None."""
-    given, cost = least_measured(["core", "rows"], ring())
+    [(given, cost)] = least_measured((["core", "rows"], ring()))
     print(f"core of a ring of {COLUMNS} columns: {cost.seconds:.2f} seconds, {cost.peak} bytes at the peak", flush=True)
     if core_count(given) != COLUMNS:
         return f"{given[0]}, {given[1][:100]}"
@@ -343,8 +345,7 @@ def ring_problem():
 
 def late_problem(what, content):
     """What is wrong with the core of rows of which the last three contradict one another, or with how long it takes, or None."""
-    given, cost = least_measured(["core", "rows"], content)
-    _, solved = least_measured(["solve", "rows"], content)
+    (given, cost), (_, solved) = least_measured((["core", "rows"], content), (["solve", "rows"], content))
     print(f"core of {what}: {cost.seconds:.2f} seconds, and {solved.seconds:.2f} to solve them, {cost.peak} bytes at the peak for {len(content)}", flush=True)
     if core_count(given) != 3:
         return f"{given[0]}, {given[1][:100]}"
@@ -385,8 +386,7 @@ def long_lines():
 
 def long_line_problem(kind, line, lines):
     """What is wrong with how long a line is read, or None: it takes no more than some times what as many bytes in short lines take."""
-    given, cost = least_measured(["solve", kind], line)
-    wanted, short = least_measured(["solve", kind], lines)
+    (given, cost), (wanted, short) = least_measured((["solve", kind], line), (["solve", kind], lines))
     print(f"{kind} of one long line: {cost.seconds:.3f} seconds, and {short.seconds:.3f} in short lines, {cost.peak} bytes at the peak for {len(line)}", flush=True)
     problem = difference(given, (0, None, b"")) or difference(wanted, (0, None, b"")) or cost.problem(len(line), BASE_BYTES)
     if problem is None and cost.seconds > MOST_LONG * short.seconds + START_SECONDS:
