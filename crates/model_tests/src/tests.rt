@@ -4,4 +4,5 @@ mod clones;
 mod graphs;
 mod kinds;
 mod proper;
+mod told;
 mod unit;

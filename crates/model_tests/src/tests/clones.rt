@@ -1,51 +1,39 @@
 // The places of clones and their contigs, worked by hand.
-use clone_map::place;
-use matrix_read::read_rows;
-use row_model::{NoMemory, Place, Read, is_order};
+use crate::tests::told::{Question, assert_told};
+use clone_map::{Placed, place};
+use row_model::{Matrix, NoMemory, is_order};
 use std::alloc::Global;
 use std::test::Fail;
 
-// The places and the contigs, where the order is valid for the rows of a file.
-fn placed_told(alloc: Global, bytes: &[u8], order: &[u32]) -> Result<Option<String>, NoMemory> {
-    let Read::Ok(matrix) = read_rows(alloc, bytes)? else {
-        return Ok(None);
-    };
+// The places and the contigs, where the order is valid.
+pub fn placed_told(alloc: Global, matrix: &Matrix, order: &[u32]) -> Result<String, NoMemory> {
     if !is_order(alloc, matrix.columns(), order)? || !matrix.keeps(order)? {
-        return Ok(None);
+        return String::from_str(alloc, "not valid");
     }
-    let placed = place(alloc, &matrix, order)?;
-    let mut text = String::new(alloc);
-    for clone in placed.places.as_slice() {
-        match clone {
-            Place::Nowhere => text.push_str("nowhere, ")?,
-            Place::At { first, last } => write!(text, "{first} to {last}, ")?,
-        }
-    }
-    text.push_str("contigs")?;
-    for contig in placed.contigs.as_slice() {
-        write!(text, " {} to {}", contig.first, contig.last)?;
-    }
-    Ok(Some(text))
+    all_told(alloc, &place(alloc, matrix, order)?)
+}
+
+fn all_told(alloc: Global, placed: &Placed) -> Result<String, NoMemory> {
+    let (places, contigs) = (placed.places.as_slice(), placed.contigs.as_slice());
+    format!(in alloc; "{places:?}, contigs {contigs:?}")
 }
 
 #[test]
 fn clones_with_a_common_probe_lie_in_one_contig(rt: HostRuntime) -> Result<(), Fail> {
-    let cases: [(&[u8], &[u32], &str); 2] = [
+    let cases: [(&str, Question, &str); 2] = [
         (
-            b"5\n1 2\n2 3\n\n4\n",
-            &[1, 2, 3, 4, 5],
-            "1 to 2, 2 to 3, nowhere, 4 to 4, contigs 1 to 3 4 to 4 5 to 5",
+            "5\n1 2\n2 3\n\n4\n",
+            Question::Placed(&[1, 2, 3, 4, 5]),
+            "[At { first: 1, last: 2 }, At { first: 2, last: 3 }, Nowhere, At { first: 4, last: 4 }], \
+             contigs [Span { first: 1, last: 3 }, Span { first: 4, last: 4 }, Span { first: 5, last: 5 }]",
         ),
         // A clone within another ends no contig.
         (
-            b"4\n1 2 3\n3\n",
-            &[4, 2, 3, 1],
-            "2 to 4, 3 to 3, contigs 1 to 1 2 to 4",
+            "4\n1 2 3\n3\n",
+            Question::Placed(&[4, 2, 3, 1]),
+            "[At { first: 2, last: 4 }, At { first: 3, last: 3 }], \
+             contigs [Span { first: 1, last: 1 }, Span { first: 2, last: 4 }]",
         ),
     ];
-    for (bytes, order, wanted) in cases {
-        let told = placed_told(rt.alloc(), bytes, order)?;
-        assert_eq!(rt; told.as_deref(), Some(wanted), "{bytes:?}");
-    }
-    Ok(())
+    assert_told(&rt, rt.alloc(), &cases)
 }
