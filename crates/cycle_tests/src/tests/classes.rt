@@ -60,20 +60,23 @@ fn two_rows_make_two_classes(rt: HostRuntime) -> Result<(), Fail> {
     Ok(())
 }
 
+fn one_row(alloc: Global) -> Result<Matrix, NoMemory> {
+    let mut m = Matrix::new(alloc, 3)?;
+    m.push_row(&[1, 2])?;
+    Ok(m)
+}
+
 // Only (1,3) and (2,3) are in one class, and (3,1) and (3,2).
 #[test]
 fn one_row_leaves_two_pairs_alone(rt: HostRuntime) -> Result<(), Fail> {
-    let mut m = Matrix::new(rt.alloc(), 3)?;
-    m.push_row(&[1, 2])?;
-    let classes = classes_of(rt.alloc(), &m)?;
+    let classes = classes_of(rt.alloc(), &one_row(rt.alloc())?)?;
     assert_classes(&rt, &classes, [1, 2, 2, 3, 4, 4]);
     Ok(())
 }
 
 #[test]
 fn without_rows_each_pair_is_alone(rt: HostRuntime) -> Result<(), Fail> {
-    let m = Matrix::new(rt.alloc(), 3)?;
-    let classes = classes_of(rt.alloc(), &m)?;
+    let classes = classes_of(rt.alloc(), &Matrix::new(rt.alloc(), 3)?)?;
     assert_classes(&rt, &classes, [1, 2, 3, 4, 5, 6]);
     Ok(())
 }

@@ -60,6 +60,13 @@ fn assert_cycle(rt: &impl Abort, m: &Matrix, lines: &[Line]) {
     }
 }
 
+// The search finds an odd cycle of the matrix.
+fn assert_found(rt: &impl Abort, alloc: Global, m: &Matrix) -> Result<(), Fail> {
+    let cycle = cycle_of(alloc, m)?.ok_or("no cycle")?;
+    assert_cycle(rt, m, cycle.lines());
+    Ok(())
+}
+
 fn pair(a: u32, b: u32) -> Pair {
     Pair { a, b }
 }
@@ -67,12 +74,13 @@ fn pair(a: u32, b: u32) -> Pair {
 #[test]
 fn a_triangle(rt: HostRuntime) -> Result<(), Fail> {
     let m = triangle(rt.alloc())?;
-    assert_eq!(rt; joined(&m, pair(1, 3), pair(3, 2)), Some(Why::Row(1)));
-    assert_eq!(rt; joined(&m, pair(1, 3), pair(3, 1)), Some(Why::Flip));
-    assert_eq!(rt; joined(&m, pair(1, 2), pair(1, 3)), None);
-    let cycle = cycle_of(rt.alloc(), &m)?.ok_or("no cycle")?;
-    assert_cycle(&rt, &m, cycle.lines());
-    Ok(())
+    let reasons = [
+        joined(&m, pair(1, 3), pair(3, 2)),
+        joined(&m, pair(1, 3), pair(3, 1)),
+        joined(&m, pair(1, 2), pair(1, 3)),
+    ];
+    assert_eq!(rt; reasons, [Some(Why::Row(1)), Some(Why::Flip), None]);
+    assert_found(&rt, rt.alloc(), &m)
 }
 
 // The rows 110000, 001100, 000011 and 010101, which have nine ones.
@@ -131,9 +139,7 @@ fn three_blocks_and_a_row_across(rt: HostRuntime) -> Result<(), Fail> {
     let m = three_blocks(rt.alloc())?;
     assert_eq!(rt; m.rows(), 4);
     assert!(rt; walk_of(rt.alloc(), &m, 3)?.is_none());
-    let cycle = cycle_of(rt.alloc(), &m)?.ok_or("no cycle")?;
-    assert_cycle(&rt, &m, cycle.lines());
-    Ok(())
+    assert_found(&rt, rt.alloc(), &m)
 }
 
 fn line(a: u32, b: u32, why: Why) -> Line {

@@ -90,36 +90,69 @@ fn has_each(frontiers: &[bool], valid: &[bool]) -> bool {
         .all(|(frontier, valid)| *frontier || !*valid)
 }
 
-// Asserts of each tree, where there is a valid order, that the classes tell what the list of orders does, and that the
-// walk along the leaves does too where the frontiers keep the rows. Where there is none, no tree has such frontiers.
-fn agree_on<L: Ledger>(
-    rt: &impl Abort,
-    alloc: Global,
-    m: &Matrix,
-    orders: &[Vec<u32>],
-    trees: &[Listed],
-    tally: &mut Tally,
-    steps: &mut Steps<L>,
-) -> Result<(), Fail> {
+// All orders of some columns, and all trees over them.
+#[derive(Drop)]
+struct Listing {
+    orders: Vec<Vec<u32>>,
+    trees: Vec<Listed>,
+}
+
+fn listing_of(alloc: Global, columns: u32) -> Result<Listing, Fail>
+    requires { (1 ≤ columns) × (columns ≤ 4) }
+{
+    let orders = all_orders(alloc, columns)?;
+    let trees = every_tree(alloc, columns, &orders)?;
+    Ok(Listing { orders, trees })
+}
+
+// Of each order whether it is valid for the rows.
+fn valid_among(alloc: Global, m: &Matrix, orders: &[Vec<u32>]) -> Result<Vec<bool>, NoMemory> {
     let mut valid = Vec::new(alloc);
     for order in orders {
         valid.push(keeps_rows(order, m))?;
     }
+    Ok(valid)
+}
+
+// Asserts of a tree that the classes tell what the list of orders does, and that the walk along the leaves does too
+// where the frontiers keep the rows.
+fn agree_on_tree(
+    rt: &impl Abort,
+    alloc: Global,
+    m: &Matrix,
+    classes: &Classes,
+    valid: &[bool],
+    listed: &Listed,
+    tally: &mut Tally,
+) -> Result<(), Fail> {
+    let tree = &listed.tree;
+    assert_eq!(rt; classes.columns(), m.columns());
+    assert_eq!(rt; tree.columns(), m.columns());
+    let found = complete(alloc, tree, classes)?;
+    assert_eq!(rt; found, has_each(&listed.frontiers, valid));
+    if holds_rows(tree, m) {
+        assert_eq!(rt; found, is_complete(alloc, m, tree)?);
+        tally.add(found);
+    }
+    Ok(())
+}
+
+// Asserts this of each tree where there is a valid order. Where there is none, no tree has frontiers that keep the rows.
+fn agree_on<L: Ledger>(
+    rt: &impl Abort,
+    alloc: Global,
+    m: &Matrix,
+    listing: &Listing,
+    tally: &mut Tally,
+    steps: &mut Steps<L>,
+) -> Result<(), Fail> {
+    let valid = valid_among(alloc, m, &listing.orders)?;
     if !valid.contains(&true) {
         return Ok(());
     }
     let classes = classes_of(alloc, m, steps)?;
-    assert_eq!(rt; classes.columns(), m.columns());
-    for listed in trees {
-        let tree = &listed.tree;
-        assert_eq!(rt; tree.columns(), m.columns());
-        let found = complete(alloc, tree, &classes)?;
-        assert_eq!(rt; found, has_each(&listed.frontiers, &valid));
-        if holds_rows(tree, m) {
-            let along = is_complete(alloc, m, tree)?;
-            assert_eq!(rt; found, along);
-            tally.add(found);
-        }
+    for listed in &listing.trees {
+        agree_on_tree(rt, alloc, m, &classes, &valid, listed, tally)?;
     }
     Ok(())
 }
@@ -129,22 +162,27 @@ fn agree_on_sets<L: Ledger>(
     rt: &impl Abort,
     alloc: Global,
     columns: u32,
+    listing: &Listing,
     tally: &mut Tally,
     steps: &mut Steps<L>,
 ) -> Result<(), Fail>
     requires { (1 ≤ columns) × (columns ≤ 4) }
 {
-    let orders = all_orders(alloc, columns)?;
-    let trees = every_tree(alloc, columns, &orders)?;
-    let none = matrix_of(alloc, columns, &[])?;
-    agree_on(rt, alloc, &none, &orders, &trees, tally, steps)?;
+    agree_on(
+        rt,
+        alloc,
+        &matrix_of(alloc, columns, &[])?,
+        listing,
+        tally,
+        steps,
+    )?;
     let rows = 1u32 << columns;
     for a in 0..rows {
         for b in a..rows {
             for c in b..rows {
                 for d in c..rows {
                     let m = matrix_of(alloc, columns, &[a, b, c, d])?;
-                    agree_on(rt, alloc, &m, &orders, &trees, tally, steps)?;
+                    agree_on(rt, alloc, &m, listing, tally, steps)?;
                 }
             }
         }
@@ -163,7 +201,8 @@ fn agree_on_all<L: Ledger, R: Abort>(rt: &R, alloc: Global, blank: Blank) -> Res
         lacking: 0,
     };
     for columns in 1..5 {
-        agree_on_sets(rt, alloc, columns, &mut tally, &mut steps)?;
+        let listing = listing_of(alloc, columns)?;
+        agree_on_sets(rt, alloc, columns, &listing, &mut tally, &mut steps)?;
     }
     Ok(tally)
 }

@@ -55,6 +55,28 @@ fn text_of(alloc: Global, shape: &str, order: &[u32]) -> Result<Vec<u8>, NoMemor
     Ok(text)
 }
 
+// Of each order whether it can be read from the tree.
+fn readable(alloc: Global, tree: &PqTree, orders: &[Vec<u32>]) -> Result<Vec<bool>, NoMemory> {
+    let mut found = Vec::new(alloc);
+    for order in orders {
+        found.push(is_read_from(order, tree.root()))?;
+    }
+    Ok(found)
+}
+
+fn tree_with_text(
+    alloc: Global,
+    text: &[u8],
+    columns: u32,
+    orders: &[Vec<u32>],
+) -> Result<Listed, Fail>
+    requires { (1 ≤ columns) × (columns ≤ 4) }
+{
+    let tree = PqTree::parse(alloc, text, columns)?.ok_or("a tree")?;
+    let frontiers = readable(alloc, &tree, orders)?;
+    Ok(Listed { tree, frontiers })
+}
+
 // Each shape with its leaves in each order.
 pub fn every_tree(alloc: Global, columns: u32, orders: &[Vec<u32>]) -> Result<Vec<Listed>, Fail>
     requires { (1 ≤ columns) × (columns ≤ 4) }
@@ -63,12 +85,7 @@ pub fn every_tree(alloc: Global, columns: u32, orders: &[Vec<u32>]) -> Result<Ve
     for shape in shapes(columns) {
         for order in orders {
             let text = text_of(alloc, shape, order)?;
-            let tree = PqTree::parse(alloc, &text, columns)?.ok_or("a tree")?;
-            let mut frontiers = Vec::new(alloc);
-            for other in orders {
-                frontiers.push(is_read_from(other, tree.root()))?;
-            }
-            trees.push(Listed { tree, frontiers })?;
+            trees.push(tree_with_text(alloc, &text, columns, orders)?)?;
         }
     }
     Ok(trees)

@@ -9,6 +9,7 @@ ghost use Rattle.reducer_tests.specs.Follows.{Follows};
 use super::marks::{marked_columns, text_of};
 use column_order::COLUMN_BOUND;
 use pq_plain::PlainReducer;
+use pq_tree::PqTree;
 use row_model::{Matrix, NoMemory, ROW_BOUND};
 use row_reduce::ArenaReducer;
 use std::alloc::Global;
@@ -78,8 +79,7 @@ impl<A: Reducer, B: Reducer> Both<A, B> {
         ensures second { OnOk result (Follows self.new.matrix (B.columns self.new.second) (B.outline self.new.second)) }
     {
         let text = text_of(alloc, &self.first.tree(alloc)?)?;
-        let other = text_of(alloc, &self.second.tree(alloc)?)?;
-        assert_eq!(rt; text.as_slice(), other.as_slice(), "after {row:?}");
+        assert_text(rt, alloc, &self.second.tree(alloc)?, &text, row)?;
         if step == Step::Refused {
             assert_eq!(rt; text.as_slice(), self.text.as_slice(), "after {row:?}");
         }
@@ -110,6 +110,19 @@ impl<A: Reducer, B: Reducer> Both<A, B> {
         }
         Ok(step)
     }
+}
+
+// The tree after a row has this text.
+pub fn assert_text(
+    rt: &impl Abort,
+    alloc: Global,
+    tree: &PqTree,
+    wanted: &[u8],
+    row: &[u32],
+) -> Result<(), NoMemory> {
+    let text = text_of(alloc, tree)?;
+    assert_eq!(rt; text.as_slice(), wanted, "after {row:?}");
+    Ok(())
 }
 
 // Reduces by the last row of a matrix.

@@ -2,8 +2,9 @@
 ghost use Rattle.std.specs.Prelude.{◌<◌};
 ghost use Rattle.row_model.specs.Rows.{IsRow};
 
+use super::both::assert_text;
 use super::counted::{Check, run_counted};
-use super::marks::{matrix_of, text_of};
+use super::marks::matrix_of;
 use c1p_solve::{Session, Started, Taken};
 use row_model::NoMemory;
 use std::alloc::Global;
@@ -57,11 +58,14 @@ fn assert_goes_on<L: Ledger>(
 // The session has three rows, and its tree and that of its reducer are the same.
 fn assert_stands(rt: &impl Abort, alloc: Global, session: &Session) -> Result<(), NoMemory> {
     assert_eq!(rt; session.matrix().rows(), 3);
-    let text = text_of(alloc, &session.tree()?)?;
-    assert_eq!(rt; text.as_slice(), b"[1 2 3]".as_slice());
-    let shown = text_of(alloc, &session.reducer().tree(alloc)?)?;
-    assert_eq!(rt; shown.as_slice(), b"[1 2 3]".as_slice());
-    Ok(())
+    assert_text(rt, alloc, &session.tree()?, b"[1 2 3]", &[1, 2, 3])?;
+    assert_text(
+        rt,
+        alloc,
+        &session.reducer().tree(alloc)?,
+        b"[1 2 3]",
+        &[1, 2, 3],
+    )
 }
 
 // A base that is refused, and a session that goes on.
