@@ -1,20 +1,32 @@
 // Unit models of the path of four vertices, worked by hand.
-use graph_model::Graph;
-use std::test::Fail;
+ghost use Rattle.std.specs.Prelude.{◌≡◌, length};
+
+use super::small::chain;
+use row_model::NoMemory;
+use std::alloc::Global;
 use unit_model::UnitText;
 use verdict_check::{UnitChecked, check_unit};
 
+// What is said of intervals of length 4 with these left ends.
+fn judged(alloc: Global, vertices: u32, lefts: &[u64]) -> Result<UnitChecked, NoMemory>
+    requires { length lefts.now ≡ vertices }
+{
+    let text = UnitText::new(vertices, 4, lefts.to_vec(alloc)?);
+    Ok(check_unit(&chain(alloc)?, &text))
+}
+
 #[test]
-fn a_unit_model_is_judged(rt: HostRuntime) -> Result<(), Fail> {
-    let mut path = Graph::new(rt.alloc(), 4)?;
-    path.add_edge(1, 2)?;
-    path.add_edge(2, 3)?;
-    path.add_edge(3, 4)?;
-    let fitting = UnitText::new(4, 4, vec![in rt.alloc(); 3, 6, 9, 13]?);
-    let too_far = UnitText::new(4, 4, vec![in rt.alloc(); 3, 6, 9, 14]?);
-    let too_few = UnitText::new(3, 4, vec![in rt.alloc(); 3, 6, 9]?);
-    assert_eq!(rt; check_unit(&path, &fitting), UnitChecked::Valid);
-    assert_eq!(rt; check_unit(&path, &too_far), UnitChecked::Model);
-    assert_eq!(rt; check_unit(&path, &too_few), UnitChecked::Vertices);
+fn a_unit_model_is_judged(rt: HostRuntime) -> Result<(), NoMemory> {
+    let said = [
+        judged(rt.alloc(), 4, &[3, 6, 9, 13])?,
+        judged(rt.alloc(), 4, &[3, 6, 9, 14])?,
+        judged(rt.alloc(), 3, &[3, 6, 9])?,
+    ];
+    let wanted = [
+        UnitChecked::Valid,
+        UnitChecked::Model,
+        UnitChecked::Vertices,
+    ];
+    assert_eq!(rt; said, wanted);
     Ok(())
 }
