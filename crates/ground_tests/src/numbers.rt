@@ -14,15 +14,16 @@ fn plain_numbers(rt: HostRuntime) -> Result<(), Fail> {
 
 #[test]
 fn numbers_and_words_at_the_front(rt: HostRuntime) {
-    let cases: [(&[u8], u64, Option<(u64, &[u8])>); 4] = [
-        (b"1024 x", 1024, Some((1024, b" x"))),
-        (b"1025", 1024, None),
-        (b"007", 9, Some((0, b"07"))),
-        (b"18446744073709551616", u64::MAX, None),
+    let numbers = [
+        number(b"1024 x", 1024),
+        number(b"1025", 1024),
+        number(b"007", 9),
+        number(b"18446744073709551616", u64::MAX),
     ];
-    for (text, limit, wanted) in cases {
-        assert_eq!(rt; number(text, limit), wanted, "{text:?}");
-    }
-    assert_eq!(rt; after_word(b"order 1", b"order "), Some(b"1".as_slice()));
-    assert_eq!(rt; after_word(b"orde", b"order "), None);
+    let wanted: [Option<(u64, &[u8])>; 4] = [Some((1024, b" x")), None, Some((0, b"07")), None];
+    let words = [
+        after_word(b"order 1", b"order "),
+        after_word(b"orde", b"order "),
+    ];
+    assert_eq!(rt; (numbers, words), (wanted, [Some(b"1".as_slice()), None]));
 }

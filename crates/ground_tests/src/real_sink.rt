@@ -36,25 +36,34 @@ impl Write for FakeStream {
     }
 }
 
+fn written(most: usize, can_flush: bool, interruptions: u32) -> Result<usize, Failed> {
+    let stream = FakeStream {
+        most,
+        can_flush,
+        interruptions,
+    };
+    RealSink::over(stream).write(b"abc")
+}
+
+// What a write of three bytes answers after 0, 1 and 2 interruptions.
+fn answers(most: usize, can_flush: bool) -> [Result<usize, Failed>; 3] {
+    [
+        written(most, can_flush, 0),
+        written(most, can_flush, 1),
+        written(most, can_flush, 2),
+    ]
+}
+
 #[test]
 fn a_write_fails_where_nothing_is_taken_or_flushed(rt: HostRuntime) {
-    for (most, can_flush, outcome) in [
-        (9, true, Ok(3)),
-        (2, true, Ok(2)),
-        (0, true, Err(Failed)),
-        (9, false, Err(Failed)),
-    ] {
-        for interruptions in [0, 1, 2] {
-            let mut sink = RealSink::over(FakeStream {
-                most,
-                can_flush,
-                interruptions,
-            });
-            assert_eq!(rt;
-                sink.write(b"abc"),
-                outcome,
-                "{most} {can_flush} {interruptions}"
-            );
-        }
-    }
+    let found = [
+        answers(9, true),
+        answers(2, true),
+        answers(0, true),
+        answers(9, false),
+    ];
+    assert_eq!(rt;
+        found,
+        [[Ok(3); 3], [Ok(2); 3], [Err(Failed); 3], [Err(Failed); 3]]
+    );
 }
