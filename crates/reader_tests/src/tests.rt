@@ -1,14 +1,11 @@
 // The tests, by what is tested.
 
-mod clones;
-mod dense;
-mod graph_files;
+mod files;
 mod graphs;
 mod lines;
 mod pieces;
 mod plain;
 mod refusals;
-mod sparse;
-mod table;
+mod same;
 mod told;
 mod words;

@@ -6,4 +6,6 @@ mod orders;
 #[cfg(test)]
 mod rows;
 #[cfg(test)]
+mod same;
+#[cfg(test)]
 mod trees;

@@ -1,13 +1,9 @@
 // Small trees, whose orders are listed by hand.
-ghost use Rattle.std.specs.Prelude.{◌≤◌};
-ghost use Rattle.column_order.specs.declared.TheConstants.{COLUMN_BOUND};
-ghost use Rattle.order_list.specs.declared.TheConstants.{MAX_ORDERS};
-
-use order_list::{NoMemory, first};
-use pq_tree::PqTree;
+use crate::same::assert_same;
+use crate::trees::tree_of;
+use order_list::{MAX_ORDERS, NoMemory, Orders, first};
 use std::alloc::Global;
 use std::process::Abort;
-use std::test::Fail;
 
 // The text of a tree over so many columns, its first orders where so many are asked for, and whether there are others.
 #[derive(Clone, Copy, Drop)]
@@ -72,30 +68,27 @@ const CASES: [Case; 6] = [
     },
 ];
 
-// The first orders of the tree are those that are listed.
-fn assert_first(rt: &impl Abort, alloc: Global, case: &Case) -> Result<(), NoMemory>
-    requires columns { (1 ≤ case.now.columns) × (case.now.columns ≤ COLUMN_BOUND) }
-    requires count { (1 ≤ case.now.count) × (case.now.count ≤ MAX_ORDERS) }
-{
-    let text = case.text.as_bytes();
-    let tree = PqTree::parse(alloc, text, case.columns)?.expect(rt, "the text of a tree");
-    let found = first(alloc, &tree, case.count)?;
-    assert_eq!(rt; found.len() as usize, case.orders.len());
-    let len = found.len();
-    for (place, order) in case.orders.iter().enumerate() {
-        assert!(rt; place < len as usize);
-        assert_eq!(rt; found.order(place as u32 + 1), *order, "{}", case.text);
+// The first orders of the tree of the case, as many as it asks for.
+fn found_orders(rt: &impl Abort, alloc: Global, case: &Case) -> Result<Orders, NoMemory> {
+    assert!(rt; 1 <= case.count && case.count <= MAX_ORDERS);
+    let tree = tree_of(rt, alloc, case.text, case.columns)?;
+    first(alloc, &tree, case.count)
+}
+
+// The orders are those that are listed.
+fn assert_listed(rt: &impl Abort, found: &Orders, case: &Case) {
+    let counted = (found.len() as usize, found.more());
+    assert_same(rt, counted, (case.orders.len(), case.more), case.text);
+    for place in 0..found.len() {
+        let listed = case.orders.get(place as usize).copied();
+        assert_same(rt, Some(found.order(place + 1)), listed, case.text);
     }
-    assert_eq!(rt; found.more(), case.more, "{}", case.text);
-    Ok(())
 }
 
 #[test]
-fn orders_that_are_listed_by_hand(rt: HostRuntime) -> Result<(), Fail> {
+fn orders_that_are_listed_by_hand(rt: HostRuntime) -> Result<(), NoMemory> {
     for case in &CASES {
-        assert!(rt; 1 <= case.columns && case.columns <= 5);
-        assert!(rt; 1 <= case.count && case.count <= 10);
-        assert_first(&rt, rt.alloc(), case)?;
+        assert_listed(&rt, &found_orders(&rt, rt.alloc(), case)?, case);
     }
     Ok(())
 }

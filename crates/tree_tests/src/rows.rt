@@ -1,44 +1,66 @@
 // The rows of trees, in the order in which their nodes give them.
 ghost use Rattle.std.specs.Prelude.{◌≤◌};
+ghost use Rattle.column_order.specs.declared.TheConstants.{COLUMN_BOUND};
+ghost use Rattle.pq_tree.specs.PqTree.{column_count};
 
+use crate::same::assert_same;
+use crate::trees::tree_of;
 use pq_tree::PqTree;
 use row_model::NoMemory;
 use std::alloc::Global;
 use std::process::Abort;
-use std::test::Fail;
 use tree_meet::{row_count, tree_rows};
 
-// The tree of this text over so many columns has exactly these rows.
-fn assert_rows(
-    rt: &impl Abort,
-    alloc: Global,
-    text: &str,
+// The text of a tree over so many columns, and its rows.
+#[derive(Clone, Copy, Drop)]
+struct Case {
+    text: &'static str,
     columns: u32,
-    rows: &[&[u32]],
-) -> Result<(), NoMemory>
-    requires { (1 ≤ columns) × (columns ≤ 4) }
+    rows: &'static [&'static [u32]],
+}
+
+const CASES: [Case; 3] = [
+    // A node comes before its children.
+    Case {
+        text: "((2 (4 1)) 3)",
+        columns: 4,
+        rows: &[&[1, 2, 3, 4], &[1, 2, 4], &[1, 4]],
+    },
+    // A Q-node gives its neighbours before its children.
+    Case {
+        text: "[4 (3 1) 2]",
+        columns: 4,
+        rows: &[&[1, 2, 3, 4], &[1, 3, 4], &[1, 2, 3], &[1, 3]],
+    },
+    // A leaf has no row.
+    Case {
+        text: "1",
+        columns: 1,
+        rows: &[],
+    },
+];
+
+// The tree has exactly these rows.
+fn assert_rows(rt: &impl Abort, alloc: Global, tree: &PqTree, case: &Case) -> Result<(), NoMemory>
+    requires { column_count tree.now ≤ COLUMN_BOUND }
 {
-    let tree = PqTree::parse(alloc, text.as_bytes(), columns)?.expect(rt, "the text of a tree");
-    assert_eq!(rt; row_count(&tree) as usize, rows.len(), "{text}");
-    let m = tree_rows(alloc, &tree)?;
-    assert_eq!(rt; m.columns(), columns);
-    assert_eq!(rt; m.rows() as usize, rows.len(), "{text}");
-    for (k, row) in rows.iter().enumerate() {
-        assert_eq!(rt; m.row(k as u32 + 1), *row, "{text}");
+    let m = tree_rows(alloc, tree)?;
+    let sizes = (m.columns(), m.rows() as usize, row_count(tree) as usize);
+    let count = case.rows.len();
+    assert_same(rt, sizes, (case.columns, count, count), case.text);
+    for k in 0..m.rows() {
+        let listed = case.rows.get(k as usize).copied();
+        assert_same(rt, Some(m.row(k + 1)), listed, case.text);
     }
     Ok(())
 }
 
 #[test]
-fn rows_that_are_listed_by_hand(rt: HostRuntime) -> Result<(), Fail> {
+fn rows_that_are_listed_by_hand(rt: HostRuntime) -> Result<(), NoMemory> {
     let alloc = rt.alloc();
-    // A node comes before its children.
-    let nodes: [&[u32]; 3] = [&[1, 2, 3, 4], &[1, 2, 4], &[1, 4]];
-    assert_rows(&rt, alloc, "((2 (4 1)) 3)", 4, &nodes)?;
-    // A Q-node gives its neighbours before its children.
-    let line: [&[u32]; 4] = [&[1, 2, 3, 4], &[1, 3, 4], &[1, 2, 3], &[1, 3]];
-    assert_rows(&rt, alloc, "[4 (3 1) 2]", 4, &line)?;
-    // A leaf has no row.
-    assert_rows(&rt, alloc, "1", 1, &[])?;
+    for case in &CASES {
+        let tree = tree_of(&rt, alloc, case.text, case.columns)?;
+        assert_rows(&rt, alloc, &tree, case)?;
+    }
     Ok(())
 }

@@ -1,11 +1,22 @@
 // Trees over few columns, texts of trees and others, and the texts of canonical forms.
-ghost use Rattle.std.specs.Prelude.{◌≤◌};
+ghost use Rattle.std.specs.Prelude.{◌≤◌, IfOk};
 ghost use Rattle.column_order.specs.declared.TheConstants.{COLUMN_BOUND};
+ghost use Rattle.pq_tree.specs.PqTree.{column_count};
 
+use crate::same::assert_same;
+use column_order::COLUMN_BOUND;
 use pq_tree::{NoMemory, PqTree, Tree, View};
 use std::alloc::Global;
 use std::process::Abort;
-use std::test::Fail;
+
+// The tree of a text over so many columns.
+pub fn tree_of(rt: &impl Abort, alloc: Global, text: &str, columns: u32) -> Result<PqTree, NoMemory>
+    ensures { IfOk result (λ tree. column_count tree ≤ COLUMN_BOUND) }
+{
+    assert!(rt; 1 <= columns && columns <= COLUMN_BOUND);
+    let parsed = PqTree::parse(alloc, text.as_bytes(), columns)?;
+    Ok(parsed.expect(rt, "the text of a tree"))
+}
 
 // The text of a tree.
 fn text_of(alloc: Global, tree: &PqTree) -> Result<Vec<u8>, NoMemory> {
@@ -14,50 +25,61 @@ fn text_of(alloc: Global, tree: &PqTree) -> Result<Vec<u8>, NoMemory> {
     Ok(text)
 }
 
-// The text is that of a tree over so many columns, and its canonical form has this text.
+// The text of the canonical form of a tree.
+fn canonical_text(alloc: Global, tree: &PqTree) -> Result<Vec<u8>, NoMemory> {
+    text_of(alloc, &tree.canonical(alloc)?)
+}
+
+// The tree has this text.
+fn assert_text(rt: &impl Abort, alloc: Global, tree: &PqTree, text: &str) -> Result<(), NoMemory> {
+    let printed = text_of(alloc, tree)?;
+    assert_same(rt, printed.as_slice(), text.as_bytes(), text);
+    Ok(())
+}
+
+// A text of a tree over so many columns, and the text of its canonical form.
+const TEXTS: [(&str, u32, &str); 6] = [
+    ("1", 1, "1"),
+    ("(3 (2 1))", 3, "((1 2) 3)"),
+    ("[3 1 2]", 3, "[2 1 3]"),
+    ("[2 1 3]", 3, "[2 1 3]"),
+    ("([1 2 3] 4 5)", 5, "([1 2 3] 4 5)"),
+    ("[5 (1 4) [2 3 6]]", 6, "[[2 3 6] (1 4) 5]"),
+];
+
+// The tree has this text and so many columns, and its canonical form has that text.
 fn assert_texts(
     rt: &impl Abort,
     alloc: Global,
-    text: &[u8],
-    columns: u32,
-    canonical: &[u8],
-) -> Result<(), NoMemory>
-    requires { (1 ≤ columns) × (columns ≤ COLUMN_BOUND) }
-{
-    let tree = PqTree::parse(alloc, text, columns)?.expect(rt, "the text of a tree");
-    assert_eq!(rt; text_of(alloc, &tree)?.as_slice(), text);
-    assert_eq!(rt;
-        text_of(alloc, &tree.canonical(alloc)?)?.as_slice(),
-        canonical
-    );
-    assert_eq!(rt; tree.frontier(alloc)?.len(), columns as usize);
+    tree: &PqTree,
+    case: &(&str, u32, &str),
+) -> Result<(), NoMemory> {
+    let (text, columns, canonical) = *case;
+    let count = tree.frontier(alloc)?.len();
+    assert_same(rt, count, columns as usize, text);
+    assert_text(rt, alloc, tree, text)?;
+    let printed = canonical_text(alloc, tree)?;
+    assert_same(rt, printed.as_slice(), canonical.as_bytes(), text);
     Ok(())
 }
 
 #[test]
-fn texts_and_canonical_forms(rt: HostRuntime) -> Result<(), Fail> {
-    for (text, columns, canonical) in [
-        ("1", 1, "1"),
-        ("(3 (2 1))", 3, "((1 2) 3)"),
-        ("[3 1 2]", 3, "[2 1 3]"),
-        ("[2 1 3]", 3, "[2 1 3]"),
-        ("([1 2 3] 4 5)", 5, "([1 2 3] 4 5)"),
-        ("[5 (1 4) [2 3 6]]", 6, "[[2 3 6] (1 4) 5]"),
-    ] {
-        assert_texts(
-            &rt,
-            rt.alloc(),
-            text.as_bytes(),
-            columns,
-            canonical.as_bytes(),
-        )?;
+fn texts_and_canonical_forms(rt: HostRuntime) -> Result<(), NoMemory> {
+    let alloc = rt.alloc();
+    for case in &TEXTS {
+        assert_texts(&rt, alloc, &tree_of(&rt, alloc, case.0, case.1)?, case)?;
     }
     Ok(())
 }
 
+// Whether the text is that of a tree over three columns.
+fn is_tree_text(alloc: Global, text: &str) -> Result<bool, NoMemory> {
+    Ok(PqTree::parse(alloc, text.as_bytes(), 3)?.is_some())
+}
+
 #[test]
-fn no_texts_of_trees_over_three_columns(rt: HostRuntime) -> Result<(), Fail> {
-    for text in [
+fn no_texts_of_trees_over_three_columns(rt: HostRuntime) -> Result<(), NoMemory> {
+    for text in &[
         "",
         "((1 2 3))",
         "[1 2]",
@@ -70,80 +92,101 @@ fn no_texts_of_trees_over_three_columns(rt: HostRuntime) -> Result<(), Fail> {
         "(1 2 3]",
         "(((((((((((((1",
     ] {
-        assert!(rt;
-            PqTree::parse(rt.alloc(), text.as_bytes(), 3)?.is_none(),
-            "{text}"
-        );
+        assert_same(&rt, is_tree_text(rt.alloc(), text)?, false, text);
     }
     Ok(())
 }
 
 // The text of P-nodes within one another, 2,047 deep, over the columns 2,048 to 1 from left to right.
-fn deep_text(alloc: Global) -> Result<Vec<u8>, NoMemory> {
-    let mut text = Vec::new(alloc);
-    for _ in 0..2047 {
-        text.push(b'(')?;
-    }
-    text.extend_from_slice(b"2048")?;
-    for k in 0..2047u32 {
-        let column = 2047 - k;
-        text.push(b' ')?;
-        for (least, place) in [(1000, 1000), (100, 100), (10, 10), (0, 1)] {
-            if column >= least {
-                text.push(b'0' + (column / place % 10) as u8)?;
-            }
-        }
-        text.push(b')')?;
+fn deep_text(alloc: Global) -> Result<String, NoMemory> {
+    let mut text = "(".repeat(alloc, 2047)?;
+    text.push_str("2048")?;
+    for column in (1..2048u32).rev() {
+        write!(text, " {column})")?;
     }
     Ok(text)
 }
 
-// The columns stand from 2,048 to 1.
-fn assert_falling(rt: &impl Abort, columns: &[u32]) {
-    assert_eq!(rt; columns.len(), 2048);
-    for (i, column) in columns.iter().enumerate() {
-        assert!(rt; i < 2048);
-        assert_eq!(rt; *column as usize, 2048 - i);
+// The columns of the tree stand from 2,048 to 1.
+fn assert_falling(rt: &impl Abort, alloc: Global, tree: &PqTree) -> Result<(), NoMemory> {
+    let columns = tree.frontier(alloc)?;
+    assert_same(rt, columns.len(), 2048, "columns of the deep tree");
+    for i in 0..2048u32 {
+        let column = columns.get(i as usize).copied();
+        assert_same(rt, column, Some(2048 - i), "a column of the deep tree");
     }
+    Ok(())
 }
 
-// The text of P-nodes within one another, each behind a lower column: 7,085 digits, 2,047 spaces and 4,094 brackets.
-fn assert_rising(rt: &impl Abort, text: &[u8]) {
-    assert_eq!(rt; text.len(), 13_226);
-    assert!(rt; text.starts_with(b"(1 (2 (3 (4 (5 "));
-    let (nodes, ends) = text.split_at(13_226 - 2047);
-    assert!(rt; nodes.ends_with(b" (2046 (2047 2048"));
-    assert!(rt; ends.iter().all(|byte| *byte == b')'));
+// The length of the text, and whether it is that of P-nodes within one another, each behind a lower column: by how it
+// begins, which leaves are the last, and the brackets at its end.
+fn rising(text: &[u8]) -> (usize, [bool; 3]) {
+    let (nodes, ends) = text.split_at(text.len().saturating_sub(2047));
+    let begins = nodes.starts_with(b"(1 (2 (3 (4 (5 ");
+    let last = nodes.ends_with(b" (2046 (2047 2048");
+    let brackets = ends.iter().all(|byte| *byte == b')');
+    (text.len(), [begins, last, brackets])
+}
+
+// The tree of the deep text has it and its columns, and its canonical form stands with rising columns: 7,085 digits,
+// 2,047 spaces and 4,094 brackets.
+fn assert_deep(rt: &impl Abort, alloc: Global, tree: &PqTree, text: &str) -> Result<(), NoMemory> {
+    assert_text(rt, alloc, tree, text)?;
+    assert_falling(rt, alloc, tree)?;
+    let found = rising(&canonical_text(alloc, tree)?);
+    assert_same(
+        rt,
+        found,
+        (13_226, [true; 3]),
+        "the canonical form of the deep tree",
+    );
+    Ok(())
 }
 
 #[test]
-fn a_deep_tree(rt: HostRuntime) -> Result<(), Fail> {
+fn a_deep_tree(rt: HostRuntime) -> Result<(), NoMemory> {
     let text = deep_text(rt.alloc())?;
-    let tree = PqTree::parse(rt.alloc(), &text, 2048)?.expect(&rt, "the text of a tree");
-    assert_eq!(rt; text_of(rt.alloc(), &tree)?.as_slice(), text.as_slice());
-    assert_falling(&rt, &tree.frontier(rt.alloc())?);
-    assert_rising(&rt, &text_of(rt.alloc(), &tree.canonical(rt.alloc())?)?);
+    let tree = tree_of(&rt, rt.alloc(), &text, 2048)?;
+    assert_deep(&rt, rt.alloc(), &tree, &text)
+}
+
+// How many columns the tree has, and whether it is the leaf 1, by its root and by the tree that it hands over.
+fn columns_and_leaf(tree: PqTree) -> (u32, [bool; 2]) {
+    let columns = tree.columns();
+    let root = matches!(tree.root().view(), View::Leaf(1));
+    let handed_over = matches!(tree.into_tree().view(), View::Leaf(1));
+    (columns, [root, handed_over])
+}
+
+// The universal tree over so many columns has this text.
+fn assert_universal(
+    rt: &impl Abort,
+    alloc: Global,
+    columns: u32,
+    text: &str,
+) -> Result<(), NoMemory>
+    requires { (1 ≤ columns) × (columns ≤ COLUMN_BOUND) }
+{
+    let tree = PqTree::universal(alloc, columns)?;
+    assert_text(rt, alloc, &tree, text)?;
+    let is_leaf = columns == 1;
+    assert_same(
+        rt,
+        columns_and_leaf(tree),
+        (columns, [is_leaf, is_leaf]),
+        text,
+    );
     Ok(())
 }
 
 #[test]
-fn universal_trees(rt: HostRuntime) -> Result<(), Fail> {
-    let alloc = rt.alloc();
-    for (columns, text) in [(1, "1"), (3, "(1 2 3)")] {
-        let tree = PqTree::universal(alloc, columns)?;
-        assert_eq!(rt; text_of(alloc, &tree)?.as_slice(), text.as_bytes());
-        assert_eq!(rt; tree.columns(), columns);
-        let is_leaf = matches!(tree.root().view(), View::Leaf(1));
-        assert_eq!(rt; is_leaf, columns == 1);
-        let is_leaf = matches!(tree.into_tree().view(), View::Leaf(1));
-        assert_eq!(rt; is_leaf, columns == 1);
-    }
-    Ok(())
+fn universal_trees(rt: HostRuntime) -> Result<(), NoMemory> {
+    assert_universal(&rt, rt.alloc(), 1, "1")?;
+    assert_universal(&rt, rt.alloc(), 3, "(1 2 3)")
 }
 
 #[test]
-fn a_tree_of_one_leaf(rt: HostRuntime) -> Result<(), Fail> {
+fn a_tree_of_one_leaf(rt: HostRuntime) -> Result<(), NoMemory> {
     let tree = PqTree::from_tree(1, Tree::leaf(1));
-    assert_eq!(rt; text_of(rt.alloc(), &tree)?.as_slice(), b"1".as_slice());
-    Ok(())
+    assert_text(&rt, rt.alloc(), &tree, "1")
 }

@@ -1,6 +1,7 @@
 // Texts that come in pieces.
 ghost use Rattle.std.specs.Prelude.{◌≤◌, length, IfOk};
 
+use crate::tests::same::assert_same;
 use crate::tests::told::{Told, read_told};
 use graph_model::{Bigraph, Graph};
 use graph_read::{BigraphReader, GraphReader};
@@ -8,7 +9,6 @@ use matrix_read::{DenseReader, RowsReader};
 use row_model::{Matrix, NoMemory, Read};
 use std::alloc::Global;
 use std::process::Abort;
-use std::test::Fail;
 
 // A reader of a text that comes in pieces.
 trait Pieces: Drop {
@@ -98,8 +98,21 @@ fn told_in_pieces<R: Pieces>(
     let first = first.min(second);
     let (reader, taken) = R::begin().next(alloc, &text[..first])?;
     let (reader, more) = reader.next(alloc, &text[taken..second])?;
-    let read = reader.last(alloc, &text[taken + more..])?;
-    read_told(alloc, &read)
+    read_told(alloc, reader.last(alloc, &text[taken + more..]))
+}
+
+// Asserts what is read from the text that is cut at these places.
+fn assert_cut_at<R: Pieces>(
+    rt: &impl Abort,
+    alloc: Global,
+    text: &[u8],
+    wanted: &str,
+    first: usize,
+    second: usize,
+) -> Result<(), NoMemory> {
+    let told = told_in_pieces::<R>(alloc, text, first, second)?;
+    assert_same(rt, told.as_str(), wanted, (text, first, second));
+    Ok(())
 }
 
 // Asserts of each text what is read from it, wherever it is cut.
@@ -107,12 +120,11 @@ fn assert_cut<R: Pieces>(
     rt: &impl Abort,
     alloc: Global,
     cases: &[(&[u8], &str)],
-) -> Result<(), Fail> {
+) -> Result<(), NoMemory> {
     for (text, wanted) in cases {
         for second in 0..text.len() + 1 {
             for first in 0..second + 1 {
-                let told = told_in_pieces::<R>(alloc, text, first, second)?;
-                assert_eq!(rt; told.as_str(), *wanted, "{text:?} at {first} and {second}");
+                assert_cut_at::<R>(rt, alloc, text, wanted, first, second)?;
             }
         }
     }
@@ -135,7 +147,7 @@ const ROWS: &[(&[u8], &str)] = &[
 ];
 
 #[test]
-fn rows_may_be_cut_anywhere(rt: HostRuntime) -> Result<(), Fail> {
+fn rows_may_be_cut_anywhere(rt: HostRuntime) -> Result<(), NoMemory> {
     assert_cut::<RowsReader>(&rt, rt.alloc(), ROWS)
 }
 
@@ -152,7 +164,7 @@ const DIGITS: &[(&[u8], &str)] = &[
 ];
 
 #[test]
-fn digits_may_be_cut_anywhere(rt: HostRuntime) -> Result<(), Fail> {
+fn digits_may_be_cut_anywhere(rt: HostRuntime) -> Result<(), NoMemory> {
     assert_cut::<DenseReader>(&rt, rt.alloc(), DIGITS)
 }
 
@@ -175,7 +187,7 @@ const GRAPHS: &[(&[u8], &str)] = &[
 ];
 
 #[test]
-fn a_graph_may_be_cut_anywhere(rt: HostRuntime) -> Result<(), Fail> {
+fn a_graph_may_be_cut_anywhere(rt: HostRuntime) -> Result<(), NoMemory> {
     assert_cut::<GraphReader>(&rt, rt.alloc(), GRAPHS)
 }
 
@@ -191,6 +203,6 @@ const BIGRAPHS: &[(&[u8], &str)] = &[
 ];
 
 #[test]
-fn a_bipartite_graph_may_be_cut_anywhere(rt: HostRuntime) -> Result<(), Fail> {
+fn a_bipartite_graph_may_be_cut_anywhere(rt: HostRuntime) -> Result<(), NoMemory> {
     assert_cut::<BigraphReader>(&rt, rt.alloc(), BIGRAPHS)
 }

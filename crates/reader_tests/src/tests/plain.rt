@@ -1,4 +1,5 @@
 // Lines in the plainest form.
+use crate::tests::same::assert_same;
 use text_lines::{PlainPair, plain_pair};
 
 #[test]
@@ -18,16 +19,14 @@ fn a_pair_is_two_numbers_and_a_line_feed(rt: HostRuntime) {
         plain_pair(text, 23),
         plain_pair(text, 40),
     ];
-    assert_eq!(rt;
-        pairs,
-        [
-            found(12, 7, 5),
-            found(0, 7, 11),
-            found(123456789, 1, 23),
-            found(1234567, 98765432, 40),
-            None
-        ]
-    );
+    let wanted = [
+        found(12, 7, 5),
+        found(0, 7, 11),
+        found(123456789, 1, 23),
+        found(1234567, 98765432, 40),
+        None,
+    ];
+    assert_same(&rt, pairs, wanted, "pairs from 0, 5, 11, 23 and 40 on");
 }
 
 #[test]
@@ -44,7 +43,7 @@ fn another_line_is_no_plain_pair(rt: HostRuntime) {
         b"1\t2\n",
         b"1234567890 2\n",
     ];
-    for line in lines {
-        assert_eq!(rt; plain_pair(line, 0), None);
+    for line in &lines {
+        assert_same(&rt, plain_pair(line, 0), None, *line);
     }
 }

@@ -1,4 +1,5 @@
 // The words of a line.
+use crate::tests::same::assert_same;
 use text_lines::{NumberWord, Numeral, WordSpan, next_number, next_word, number};
 
 #[test]
@@ -10,7 +11,7 @@ fn words_are_runs_between_spaces_and_tabs(rt: HostRuntime) {
         next_word(line, 3, 4),
     ];
     let word = |start, end| Some(WordSpan { start, end });
-    assert_eq!(rt; found, [word(1, 3), word(4, 5), None]);
+    assert_same(&rt, found, [word(1, 3), word(4, 5), None], line);
 }
 
 #[test]
@@ -23,15 +24,13 @@ fn a_word_is_a_number_or_none(rt: HostRuntime) {
         next_number(line, 27),
     ];
     let word = |number, next| Some(NumberWord { number, next });
-    assert_eq!(rt;
-        found,
-        [
-            word(Numeral::Value(12), 4),
-            word(Numeral::NotDigits, 9),
-            word(Numeral::Value(3), 27),
-            None
-        ]
-    );
+    let wanted = [
+        word(Numeral::Value(12), 4),
+        word(Numeral::NotDigits, 9),
+        word(Numeral::Value(3), 27),
+        None,
+    ];
+    assert_same(&rt, found, wanted, line);
 }
 
 #[test]
@@ -43,7 +42,7 @@ fn numbers_end_at_64_bits(rt: HostRuntime) {
         (b"1a", Numeral::NotDigits),
         (b"", Numeral::NotDigits),
     ];
-    for (word, wanted) in cases {
-        assert_eq!(rt; number(word), wanted, "{word:?}");
+    for (word, wanted) in &cases {
+        assert_same(&rt, number(word), *wanted, *word);
     }
 }
