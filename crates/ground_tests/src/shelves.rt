@@ -174,7 +174,7 @@ fn a_sink_takes_what_room_is_reserved_for(rt: HostRuntime) -> Result<(), Fail> {
     assert_room(&rt, &mut MemSink::new(rt.alloc()))
 }
 
-// A sink that takes eight bytes in a write, of whose writes one is to fail.
+// A sink that takes eight bytes in a write, and fails at this write.
 fn sink_that_fails_at(alloc: Global, call: u64) -> Result<MemSink, NoMemory> {
     let mut sink = MemSink::new(alloc);
     sink.reserve(100)?;

@@ -118,8 +118,8 @@ fn assert_falling(rt: &impl Abort, alloc: Global, tree: &PqTree) -> Result<(), N
     Ok(())
 }
 
-// The length of the text, and whether it is that of P-nodes within one another, each behind a lower column: by how it
-// begins, which leaves are the last, and the brackets at its end.
+// The length of the text of a deep tree, and whether it begins with the lowest columns, ends with the highest, and closes
+// all its brackets at the end.
 fn rising(text: &[u8]) -> (usize, [bool; 3]) {
     let (nodes, ends) = text.split_at(text.len().saturating_sub(2047));
     let begins = nodes.starts_with(b"(1 (2 (3 (4 (5 ");
@@ -128,8 +128,8 @@ fn rising(text: &[u8]) -> (usize, [bool; 3]) {
     (text.len(), [begins, last, brackets])
 }
 
-// The tree of the deep text has it and its columns, and its canonical form stands with rising columns: 7,085 digits,
-// 2,047 spaces and 4,094 brackets.
+// The deep tree is printed as the deep text, its columns fall from the first leaf on, and those of its canonical form rise:
+// that has 7,085 digits, 2,047 spaces and 4,094 brackets.
 fn assert_deep(rt: &impl Abort, alloc: Global, tree: &PqTree, text: &str) -> Result<(), NoMemory> {
     assert_text(rt, alloc, tree, text)?;
     assert_falling(rt, alloc, tree)?;

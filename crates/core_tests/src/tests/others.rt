@@ -9,7 +9,8 @@ use std::test::Fail;
 // two other rows.
 type Case = (&'static [u32], usize, &'static [u32], bool);
 
-// Whether an order of the columns keeps the three rows but the one at an index; None where there is no such row.
+// Whether an order of the columns keeps the three rows but the one at an index; None where there are not three rows,
+// or no such index.
 fn is_kept(
     alloc: Global,
     m: &Matrix,

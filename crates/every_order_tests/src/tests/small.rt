@@ -137,7 +137,7 @@ fn agree_on_tree(
     Ok(())
 }
 
-// Asserts this of each tree where there is a valid order. Where there is none, no tree has frontiers that keep the rows.
+// Goes over the trees where there is a valid order. Where there is none, no tree has frontiers that keep the rows.
 fn agree_on<L: Ledger>(
     rt: &impl Abort,
     alloc: Global,

@@ -31,8 +31,14 @@ fn intervals_are_listed_by_vertex(rt: HostRuntime) -> Result<(), Fail> {
 }
 
 pub fn fits_told(alloc: Global, g: &Graph, list: &[Interval]) -> Result<String, NoMemory> {
-    let is_model = list.len() == g.vertices() as usize && fits(g, list);
-    String::from_str(alloc, if is_model { "a model" } else { "no model" })
+    let told = if list.len() != g.vertices() as usize {
+        "another number of vertices"
+    } else if fits(g, list) {
+        "a model"
+    } else {
+        "no model"
+    };
+    String::from_str(alloc, told)
 }
 
 // Asks about a model of the path whose last interval has these ends.

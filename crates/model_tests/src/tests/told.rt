@@ -39,10 +39,10 @@ pub fn assert_told(
     alloc: Global,
     cases: &[(&str, Question, &str)],
 ) -> Result<(), Fail> {
-    for i in 0..cases.len() {
-        let case = cases[i];
-        let told = told_in(alloc, case.0.as_bytes(), case.1)?;
-        assert_eq!(rt; told.as_str(), case.2, "{case:?}");
+    for case in cases {
+        let (text, question, wanted) = *case;
+        let told = told_in(alloc, text.as_bytes(), question)?;
+        assert_eq!(rt; told.as_str(), wanted, "{case:?}");
     }
     Ok(())
 }
@@ -52,7 +52,9 @@ fn told_in(alloc: Global, text: &[u8], question: Question) -> Result<String, NoM
         Question::UnitText => unit_text_told(alloc, text),
         Question::Sizes(kind) | Question::Derived(kind) => told_of(alloc, kind, text, question),
         Question::Placed(_) => told_of(alloc, Kind::Rows, text, question),
-        _ => told_of(alloc, Kind::Proper, text, question),
+        Question::Model(_, _) | Question::Fits(_) | Question::UnitFits(_, _) => {
+            told_of(alloc, Kind::Proper, text, question)
+        }
     }
 }
 

@@ -42,7 +42,10 @@ pub fn unit_fits_told(
     lefts: &[u64],
     length: u64,
 ) -> Result<String, NoMemory> {
-    let is_model = lefts.len() == g.vertices() as usize && unit_fits(g, lefts, length);
+    if lefts.len() != g.vertices() as usize {
+        return String::from_str(alloc, "another number of left ends");
+    }
+    let is_model = unit_fits(g, lefts, length);
     String::from_str(alloc, if is_model { "a model" } else { "no model" })
 }
 
@@ -58,7 +61,7 @@ fn left_ends_may_move_within_the_length(rt: HostRuntime) -> Result<(), Fail> {
     assert_told(&rt, rt.alloc(), &cases)
 }
 
-// The text of the unit model of which the bytes are the text.
+// The text of the unit model that the bytes say; none of its bytes where they say none.
 fn printed_again(alloc: Global, bytes: &[u8]) -> Result<Vec<u8>, NoMemory> {
     let mut text = Vec::new(alloc);
     if let Some(unit) = parse_unit(alloc, bytes)? {
@@ -88,7 +91,7 @@ fn numbers_told(alloc: Global, unit: &UnitText) -> Result<String, NoMemory> {
 }
 
 // The case of a text that is not that of a unit model.
-fn other(text: &str) -> (&str, Question, &str) {
+fn not_a_unit_text(text: &str) -> (&str, Question, &str) {
     (text, Question::UnitText, "no unit text")
 }
 
@@ -105,12 +108,12 @@ fn unit_texts_and_others(rt: HostRuntime) -> Result<(), Fail> {
             Question::UnitText,
             "1 0 [18446744073709551615]",
         ),
-        other("pq-unit 1\nvertices 1\nlength 1\nunit 1 0\nend"),
-        other("pq-unit 1\nvertices 1\nlength 1\nunit 2 0\nend\n"),
-        other("pq-unit 1\nvertices 1\nlength 1\nunit 1 00\nend\n"),
-        other("pq-unit 1\nvertices 1\nlength 18446744073709551616\nunit 1 0\nend\n"),
-        other("pq-unit 1\nvertices 0\nlength 1\nend\n"),
-        other("pq-unit 1\nvertices 1\nlength 1\nunit 1 0\nend\n\n"),
+        not_a_unit_text("pq-unit 1\nvertices 1\nlength 1\nunit 1 0\nend"),
+        not_a_unit_text("pq-unit 1\nvertices 1\nlength 1\nunit 2 0\nend\n"),
+        not_a_unit_text("pq-unit 1\nvertices 1\nlength 1\nunit 1 00\nend\n"),
+        not_a_unit_text("pq-unit 1\nvertices 1\nlength 18446744073709551616\nunit 1 0\nend\n"),
+        not_a_unit_text("pq-unit 1\nvertices 0\nlength 1\nend\n"),
+        not_a_unit_text("pq-unit 1\nvertices 1\nlength 1\nunit 1 0\nend\n\n"),
     ];
     assert_told(&rt, rt.alloc(), &cases)
 }

@@ -26,7 +26,7 @@ fn assert_edges(rt: &impl Abort, graph: &Graph) {
         rt,
         edges,
         [true, false, true],
-        "4 and 2, 1 and 4, none of 3",
+        "from 4 to 2, from 1 to 4, no neighbour of 3",
     );
 }
 

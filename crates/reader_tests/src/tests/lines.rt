@@ -35,5 +35,10 @@ fn a_part_has_the_lines_up_to_its_last_feed(rt: HostRuntime) {
     assert_same(&rt, lengths, [Some(4), None], "lengths of whole lines");
     let marked: &[u8] = b"\xEF\xBB\xBFa";
     let found = [unmarked_part(false, marked), unmarked_part(true, marked)];
-    assert_same(&rt, found, [&marked[3..], marked], "at the start and later");
+    assert_same(
+        &rt,
+        found,
+        [&marked[3..], marked],
+        "a mark at the start and one later",
+    );
 }

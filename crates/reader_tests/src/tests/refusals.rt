@@ -117,7 +117,7 @@ fn the_first_refusal_counts(rt: HostRuntime) -> Result<(), NoMemory> {
     assert_read(&rt, rt.alloc(), REFUSED)
 }
 
-// As what the lines are refused, where as many rows as are allowed stand before the last line.
+// The refusal of as many rows as are allowed with this text behind them; None where they are read.
 fn refusal_behind_rows(alloc: Global, last: &str) -> Result<Option<Refusal>, NoMemory> {
     let mut text = "1\n".repeat(alloc, MAX_ROWS as usize)?;
     text.push_str(last)?;

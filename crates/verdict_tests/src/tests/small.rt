@@ -145,7 +145,7 @@ fn said_of(alloc: Global, small: Small, text: &[u8]) -> Result<Option<Checked>, 
     judged(alloc, &small.instance(alloc)?, text)
 }
 
-// The same of the verdict of a version, told by its lines after the first.
+// What is said of the verdict with this first line and these further lines.
 fn said_of_lines(
     alloc: Global,
     small: Small,
