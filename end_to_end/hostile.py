@@ -34,9 +34,8 @@ ALIKE = 127
 LOOP = "for turn in range(5_000_000): pass"
 LOOP_SECONDS = 0.2
 MOST_SECONDS = 5
-# How many times as long twice as much may take. It takes two to two and a half times as long, by what else uses the machine's caches, and would
-# take four times if each row were compared with each other.
-MOST_GROWTH = 3
+# How many times as long twice as much may take. It would take four times as long if each row were compared with each other.
+MOST_GROWTH = 2.2
 # How long `core` may take where it needs each row of a ring, and how much longer than `solve` it may take where it needs three rows of very many,
 # beside the start of two programs.
 RING_SECONDS = 2
@@ -46,7 +45,9 @@ START_SECONDS = 0.02
 # if each window were searched again from the start of the line.
 MOST_LONG = 5
 # Where two times are compared, each is the least of so many, made in turns: what else the machine does makes a run dearer, and none cheaper.
+# Where that is not enough to tell, there are more turns, up to so many: on a busy machine one run takes half as long again as the next.
 TRIES = 3
+MOST_TRIES = 20
 MOST_TIMES = 12
 # The program, the C library and the room for one read, or the small program that starts it.
 BASE_BYTES = 16 << 20
@@ -278,10 +279,19 @@ def measured(words, content, given=None):
         return run_measured([PROGRAM, *words, file], given)
 
 
+def turns(*runs):
+    """Of each of these runs, which are made in turns, the try that took the least time so far: after as many turns as there are at the least, and
+    after each further one."""
+    least = [measured(*run) for run in runs]
+    for turn in range(2, MOST_TRIES + 1):
+        least = [min(one, measured(*run), key=lambda given: given[1].seconds) for one, run in zip(least, runs)]
+        if turn >= TRIES:
+            yield least
+
+
 def least_measured(*runs):
-    """Of each of these runs, which are made in turns, the try that took the least time. So a slow while of the machine meets all of them."""
-    tries = [[measured(*run) for run in runs] for _ in range(TRIES)]
-    return [min(tries_of_one, key=lambda given: given[1].seconds) for tries_of_one in zip(*tries)]
+    """Of each of these runs, which are made in turns, the try that took the least time."""
+    return next(turns(*runs))
 
 
 def rows_alike(count):
@@ -299,13 +309,15 @@ def many_orders_problem():
     twice as many in about twice the time."""
     counts = [MOST_ROWS // 2, MOST_ROWS]
     files = [rows_alike(count) for count in counts]
-    runs = least_measured(*((["check-core", "matrix", "-"], text, matrix) for matrix, text in files))
+    for runs in turns(*((["check-core", "matrix", "-"], text, matrix) for matrix, text in files)):
+        half, whole = (cost.seconds for _, cost in runs)
+        if whole <= MOST_GROWTH * half:
+            break
     for count, (matrix, text), (given, cost) in zip(counts, files, runs):
         print(f"a core of {count} rows that are all alike: {cost.seconds:.2f} seconds, {cost.peak} bytes at the peak for {len(matrix)} and {len(text)}", flush=True)
         problem = difference(given, (1, b"invalid join 1\n", b"")) or cost.problem(len(matrix) + len(text), BASE_BYTES)
         if problem:
             return problem
-    half, whole = (cost.seconds for _, cost in runs)
     return None if whole <= MOST_GROWTH * half else f"{whole:.2f} seconds after {half:.2f}"
 
 
