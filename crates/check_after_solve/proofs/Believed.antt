@@ -6,6 +6,7 @@ use Rattle.row_model.specs.declared.refusal.Refusal.{Refusal}
 use Rattle.pq_io.specs.Taken.{Taken}
 use Rattle.std.specs.Prelude.{◌↔◌, IsNone}
 use Rattle.pq_io.specs.Faults.{Rose}
+use Rattle.pq_io.specs.Sink.{AppendsPrefix}
 use Rattle.command_input.specs.Words.{Command, Solve, Check, command_of, kind_of, files_of}
 use Rattle.command_input.specs.Instances.{instance_of}
 use Rattle.reply_laws.specs.Replies.{Replies, refused_at, refusal_of}
@@ -37,6 +38,10 @@ pub record EndsOver (told : List ℕ → Option (List ℕ)) (c : Command) (ts : 
   pub in_grammar : status ≢ 2
   pub readable : status ≢ 4
   pub range : status ≤ 6
+
+-- where memory is refused nothing is written, and no fault is counted
+abbrev pub IsStill : Option (List ℕ) → Option (List ℕ) → ℕ → ℕ → ℕ → Type 0
+IsStill before after faults_before faults_after status = status ≡ 6 → (after ≡ before) × (faults_after ≡ faults_before)
 
 as_reply : {status : ℕ} → (status ≡ 0) ⊎ (status ≡ 1) → (status ≡ 0) ⊎ (status ≡ 1) ⊎ (status ≡ 5)
 as_reply (inl none) = inl none
@@ -97,14 +102,21 @@ module _ (law : FitsWhereTold) (told : List ℕ → Option (List ℕ)) (kind : K
         let none = is_fine kind bytes status verdict reply.1 in
         cc
 
-    pub found_valid : (found : ℕ) → EndsOver told (checking kind) ts before after found → CountsWrites faults_before faults_after found → FindsValid before after faults_before faults_after found
-    found_valid zero run counts = is_valid 0 (inl refl) run
-    found_valid (suc zero) run counts = is_valid 1 (inr refl) run
-    found_valid (suc (suc zero)) run counts = absurd (run.in_grammar refl)
-    found_valid (suc (suc (suc zero))) run counts = let r = run.refused refl in absurd (never_refused r.0 r.1 r.2 run.asks)
-    found_valid (suc (suc (suc (suc zero)))) run counts = absurd (run.readable refl)
-    found_valid (suc (suc (suc (suc (suc zero))))) run counts = inr (inl (refl, counts.fault refl))
-    found_valid (suc (suc (suc (suc (suc (suc n)))))) run counts = inr (inr (omega (arith, run.range)))
+    -- what was written before a fault is a first part of the same
+    is_cut : EndsOver told (checking kind) ts before after 5 → AppendsPrefix before after (codes "valid\n")
+    is_cut run =
+        let w = run.written.cut_short refl (bytes ∷ verdict ∷ []) (both_fit 5 run.asks (run.asks.on_reply (inr (inr refl)))) in
+        let a = agreed kind instance_name instance_name verdict_name bytes verdict w.1 status w.0 reply.1 w.2 in
+        subst (λ t. AppendsPrefix before after t) a.1 w.3
+
+    pub found_valid : (found : ℕ) → EndsOver told (checking kind) ts before after found → CountsWrites faults_before faults_after found → IsStill before after faults_before faults_after found → FindsValid before after faults_before faults_after found
+    found_valid zero run counts still = is_valid 0 (inl refl) run
+    found_valid (suc zero) run counts still = is_valid 1 (inr refl) run
+    found_valid (suc (suc zero)) run counts still = absurd (run.in_grammar refl)
+    found_valid (suc (suc (suc zero))) run counts still = let r = run.refused refl in absurd (never_refused r.0 r.1 r.2 run.asks)
+    found_valid (suc (suc (suc (suc zero)))) run counts still = absurd (run.readable refl)
+    found_valid (suc (suc (suc (suc (suc zero))))) run counts still = inr (inl (refl, counts.fault refl, is_cut run))
+    found_valid (suc (suc (suc (suc (suc (suc n)))))) run counts still = let six : suc (suc (suc (suc (suc (suc n))))) ≡ 6 = omega (arith, run.range) in let s = still six in inr (inr (six, s.0, s.1))
 
 -- a count that stays at none did not rise
 none_rose : Rose 0 0 → ⊥
@@ -133,9 +145,10 @@ solved_of law told bytes is ts text word status words e run =
 pub found_of : (law : FitsWhereTold) (agreed : AgreedLaw) (told : List ℕ → Option (List ℕ)) (bytes verdict : List ℕ) → told instance_name ≡ Some bytes → told verdict_name ≡ Some verdict
     → (ts : List Taken) (before after : Option (List ℕ)) (faults_before faults_after : ℕ) (word : List ℕ) (found : ℕ) (words : List (List ℕ))
     → words ≡ codes "check" ∷ word ∷ instance_name ∷ verdict_name ∷ [] → IfSome (command_of words) (λ c. EndsOver told c ts before after found) → CountsWrites faults_before faults_after found
+    → IsStill before after faults_before faults_after found
     → IfSome (kind_of word) (λ kind. IsFoundAs kind bytes verdict before after faults_before faults_after found)
-found_of law agreed told bytes verdict is verdict_is ts before after faults_before faults_after word found words e run counts =
-    of_kind checking _ _ (kind_of word) (λ kind ends status reply. found_valid law told kind bytes is ts agreed verdict verdict_is before after faults_before faults_after status reply found ends counts)
+found_of law agreed told bytes verdict is verdict_is ts before after faults_before faults_after word found words e run counts still =
+    of_kind checking _ _ (kind_of word) (λ kind ends status reply. found_valid law told kind bytes is ts agreed verdict verdict_is before after faults_before faults_after status reply found ends counts still)
     (subst (λ ws. IfSome (command_of ws) (λ c. EndsOver told c ts before after found)) e run)
 
 pub three_words : {a b c x y z : List ℕ} → a ≡ x → b ≡ y → c ≡ z → a ∷ b ∷ c ∷ [] ≡ x ∷ y ∷ z ∷ []

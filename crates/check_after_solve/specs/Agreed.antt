@@ -2,6 +2,7 @@
 use Rattle.std.specs.Prelude.{◌≡◌, ◌≢◌, ◌⊎◌, ℕ, List, [], ◌∷◌, Option, None, codes}
 use Rattle.std.specs.Io.KnownBytes.{Appends}
 use Rattle.pq_io.specs.Faults.{Rose}
+use Rattle.pq_io.specs.Sink.{AppendsPrefix}
 use Rattle.row_model.specs.declared.kind.Kind.{Kind}
 use Rattle.command_input.specs.Words.{Solve}
 use Rattle.reply_laws.specs.Replies.{Replies, refusal_of}
@@ -28,11 +29,12 @@ IsUnsolvedAs kind bytes status = ((status ≡ 3) × IsRefusedOn kind bytes) ⊎ 
 abbrev pub IsSolvedAs : Kind → List ℕ → ℕ → List ℕ → Type 0
 IsSolvedAs kind bytes status text = IsReplyOn kind bytes status text ⊎ IsUnsolvedAs kind bytes status
 
--- A check found what it was given valid and wrote so; or a write failed, or memory was refused. What was sent and the
--- count of faults go from the first to the second.
+-- A check found what it was given valid and wrote so; or a write failed, and some first bytes of that were written; or
+-- memory was refused, and nothing was written. What was sent and the count of faults go from the first to the second.
 abbrev pub FindsValid : Option (List ℕ) → Option (List ℕ) → ℕ → ℕ → ℕ → Type 0
 FindsValid before after faults_before faults_after found =
-    ((found ≡ 0) × Appends before after (codes "valid\n")) ⊎ ((found ≡ 5) × Rose faults_before faults_after) ⊎ (found ≡ 6)
+    ((found ≡ 0) × Appends before after (codes "valid\n")) ⊎ ((found ≡ 5) × Rose faults_before faults_after × AppendsPrefix before after (codes "valid\n"))
+    ⊎ ((found ≡ 6) × (after ≡ before) × (faults_after ≡ faults_before))
 
 -- a check of this verdict found it valid, where it is a reply of `solve`
 abbrev pub IsFoundAs : Kind → List ℕ → List ℕ → Option (List ℕ) → Option (List ℕ) → ℕ → ℕ → ℕ → Type 0

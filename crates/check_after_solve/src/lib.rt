@@ -1,7 +1,7 @@
 //! A check of what `solve` wrote, over files in memory: what one run of the top call writes, another believes.
 #![tactic(auto)]
 
-ghost use Rattle.std.specs.Prelude.{◌≡◌, ℕ, IfOk, IfSome, IfNone};
+ghost use Rattle.std.specs.Prelude.{◌≡◌, ℕ, IfOk, IfSome, IfNone, OnErr};
 ghost use Rattle.command_input.specs.Words.{kind_of};
 ghost use Rattle.check_after_solve.specs.Agreed.{IsSolvedAs, IsFoundAs, IsEndOf};
 ghost use Rattle.check_after_solve.specs.declared.Ended.TheVariants.{Unsolved};
@@ -23,14 +23,14 @@ pub enum Ended {
 /// Runs `solve KIND instance`, and then `check KIND instance verdict` over the same instance and what the first wrote.
 ///
 /// No read fails. The first run may write `room` bytes, and the second writes to `out`. With status 0 or 1 the first
-/// wrote a reply whole. Then the second ends with 0 and wrote `valid`, or with 5, where `out` counts a fault, or with 6
-/// where memory is refused. Else the first ended with 3 on an instance that is refused, or with 5 or 6, of which the
-/// contract names no cause; and with 2 where `kind` is no word of a kind. Then there is no second run, and `out` is as
-/// it was.
+/// wrote a reply whole. Then the second ends with 0 and wrote `valid`. Or it ends with 5: then `out` counts a fault, and
+/// has some first bytes of that. Or it ends with 6 where memory is refused, and `out` is as it was. Else the first ended
+/// with 3 on an instance that is refused, or with 5 or 6, of which the contract names no cause; and with 2 where `kind`
+/// is no word of a kind. Then there is no second run, and `out` is as it was.
 ///
 /// # Errors
 ///
-/// `NoMemory` where the words, the files or the room lack memory.
+/// `NoMemory` where the words, the files or the room lack memory. `out` is as it was then.
 pub fn solve_then_check<P: Sink>(
     alloc: Global,
     kind: &str,
@@ -43,6 +43,7 @@ pub fn solve_then_check<P: Sink>(
         (P.faults out.new) ended)) }
     ensures no_kind { IfOk result (λ ended. IfNone (kind_of kind.now) (ended ≡ Unsolved 2)) }
     ensures unsolved { IfOk result (λ ended. (status : ℕ) → ended ≡ Unsolved status → out.new ≡ out.old) }
+    ensures err { OnErr result (out.new ≡ out.old) }
 {
     let (status, written) = solve(alloc, kind, instance, room)?;
     if status > 1 {
@@ -72,7 +73,7 @@ fn solve(alloc: Global, kind: &str, instance: &[u8], room: usize) -> Result<(u8,
     Ok((status, out))
 }
 
-// The run of `check` over an instance and a verdict: its status.
+// The run of `check` over an instance and a verdict: its status. Without memory for the files nothing is written.
 fn check<P: Sink>(
     alloc: Global,
     kind: &str,
@@ -83,6 +84,7 @@ fn check<P: Sink>(
     ensures found { IfOk result (λ found. IfSome (kind_of kind.now) (λ k.
         IsFoundAs k instance.now verdict.now (P.written out.old) (P.written out.new)
         (P.faults out.old) (P.faults out.new) found)) }
+    ensures err { OnErr result (out.new ≡ out.old) }
 {
     solved_law();
     told_law();

@@ -1,7 +1,10 @@
 -- The gaps between neighbouring positions of an order, and what leaves them open.
 use Rattle.std.specs.Prelude.{◌≡◌, ◌⊎◌, ℕ, ◌+◌, ◌<◌, ◌≤◌, List, length, slice_index, slice_index_or, IsTrue, IsFalse}
 use Rattle.column_order.specs.Orders.{has, place}
-use Rattle.row_model.specs.Graph.{row_at}
+use Rattle.row_model.specs.declared.graph.Line.{Line}
+use Rattle.row_model.specs.declared.graph.Pair.{Pair}
+use Rattle.row_model.specs.declared.graph.Why.TheVariants.{Row}
+use Rattle.row_model.specs.Graph.{pair, row_at}
 use Rattle.open_gaps.specs.declared.gap.Gap.{Gap}
 
 -- row k has the columns on both sides of the gap behind position q, and lacks the column b
@@ -11,6 +14,13 @@ pub record Opens (rows : List (List ℕ)) (o : List ℕ) (k q b : ℕ) : Type 0 
   pub low : IsTrue (has (row_at rows k) (slice_index o q))
   pub high : IsTrue (has (row_at rows k) (slice_index o (q + 1)))
   pub lacks : IsFalse (has (row_at rows k) b)
+
+-- the line leads from the pair (a,b) to b and the column at position d, by a row that opens the gap behind position q for b
+pub record LeadsOver (rows : List (List ℕ)) (o : List ℕ) (q d : ℕ) (v : Pair) (line : Line) : Type 0 where
+  pub k : ℕ
+  pub opens : Opens rows o k q v.b
+  pub by_row : line.why ≡ Row k
+  pub to : line.pair ≡ pair v.b (slice_index o d)
 
 -- some row has the columns on both sides of the gap behind position q, and lacks the column at position p
 abbrev pub IsOpen : List (List ℕ) → List ℕ → ℕ → ℕ → Type 0

@@ -4,7 +4,7 @@ ghost use Rattle.column_order.specs.Orders.{IsOrder, IsWithin, IsValidOrder, pla
 ghost use Rattle.row_model.specs.Positions.{ArePositions, IsSpanInOrder};
 ghost use Rattle.row_model.specs.Graph.{pair, IsPair, JoinedBy};
 ghost use Rattle.open_gaps.specs.declared.gap.Gap.{Gap};
-ghost use Rattle.open_gaps.specs.Gaps.{Opens, IsOpen, IsAtOpenGap, AreGaps};
+ghost use Rattle.open_gaps.specs.Gaps.{Opens, LeadsOver, IsOpen, IsAtOpenGap, AreGaps};
 ghost use Rattle.open_gaps.specs.Tables.{covered};
 
 use crate::gap::{Gap, cover, is_open_before, is_open_behind, opener};
@@ -127,12 +127,14 @@ impl OpenGaps {
         is_open_before(&self.gaps, x) || is_open_behind(&self.gaps, x)
     }
 
-    /// From a pair (a,b) the pair (b,d), where d stands right before a in the order, if a row that has both a and d and
-    /// lacks b joins the two, with the number of such a row.
+    /// From a pair (a,b) the pair (b,d), where d stands right before a in the order, with the number of a row that has
+    /// both a and d and lacks b, and so joins the two. None where there is no such row.
     pub fn before(&self, v: Pair) -> Option<Line>
         requires { IsPair (length self.now.order) v }
         ensures joined { (rows : List (List ℕ)) → AreGaps rows self.now.order self.now.gaps
             → IfSome result (λ line. JoinedBy (length self.now.order) rows line.pair v line.why) }
+        ensures opened { (rows : List (List ℕ)) → AreGaps rows self.now.order self.now.gaps
+            → IfSome result (λ line. (q : ℕ) × (q + 1 ≡ place self.now.order v.a) × LeadsOver rows self.now.order q q v line) }
         ensures whole { (rows : List (List ℕ)) → AreGaps rows self.now.order self.now.gaps
             → (k q : ℕ) → q + 1 ≡ place self.now.order v.a → Opens rows self.now.order k q v.b
             → MatchOption result ⊥ (λ line. line.pair ≡ pair v.b (slice_index self.now.order q)) }
@@ -153,6 +155,9 @@ impl OpenGaps {
         requires { IsPair (length self.now.order) v }
         ensures joined { (rows : List (List ℕ)) → AreGaps rows self.now.order self.now.gaps
             → IfSome result (λ line. JoinedBy (length self.now.order) rows line.pair v line.why) }
+        ensures opened { (rows : List (List ℕ)) → AreGaps rows self.now.order self.now.gaps
+            → IfSome result (λ line. (place self.now.order v.a + 1 < length self.now.order)
+            × LeadsOver rows self.now.order (place self.now.order v.a) (place self.now.order v.a + 1) v line) }
         ensures whole { (rows : List (List ℕ)) → AreGaps rows self.now.order self.now.gaps
             → (k : ℕ) → place self.now.order v.a + 1 < length self.now.order
             → Opens rows self.now.order k (place self.now.order v.a) v.b

@@ -1,8 +1,12 @@
 -- Pieces that are handed out one after the other.
-use Rattle.std.proofs.Common.{◌≡◌, ◌≢◌, ℕ, zero, suc, ◌+◌, ◌==◌, take, drop, ◌∙◌, Bool, true, false, List, [], ◌∷◌, ◌++◌, refl, ap, append-nil, append_assoc, sym, if◌then◌else◌, arith}
+use Rattle.std.proofs.Common.{◌≡◌, ◌≢◌, ◌≤◌, length, ℕ, zero, suc, ◌+◌, ◌==◌, take, drop, ◌∙◌, Bool, true, false, List, length, [], ◌∷◌, ◌++◌, refl, ap, subst, append-nil, append_assoc, sym, if◌then◌else◌, arith}
 use Rattle.std.proofs.lemmas.Grind.{common_steps}
 use Rattle.std.proofs.Math.Seq.{take-add}
+use Rattle.std.proofs.Common.{Result, Ok, Err}
 use Rattle.pq_io.specs.Taken.{Taken, read_on, handed_out}
+use Rattle.pq_io.specs.Whole.{FailsWithin}
+use Rattle.pq_io.specs.declared.error.ReadFail.{ReadFail}
+use Rattle.pq_io.specs.declared.error.ReadFail.TheVariants as fail
 
 -- nothing more changes nothing
 nil_at : (t : Taken) (e : Bool) → t.ended ≡ e → (if e then t else record { name = t.name; bytes = t.bytes ++ []; ended = false }) ≡ t
@@ -54,3 +58,13 @@ pub goes_on-end : (a b c : List Taken) (at n : ℕ) (old new : List ℕ) → b �
 goes_on-end a b c at n old new before front next none =
     goes_on a b c at 0 true old new before front (next ∙ ap (λ k. handed_out (take k (drop at new)) (k == 0) b) none)
     ∙ ap (λ k. handed_out (take k new) true a) (omega arith)
+
+-- a read failed when no more than the limit was handed out, and the end was not seen
+pub fails_within : {T : Type 0} (limit : ℕ) (piece : List ℕ) (result : Result T ReadFail) → length piece ≤ limit → FailsWithin limit piece false result
+fails_within limit piece (Ok x) few = tt
+fails_within limit piece (Err fail.Fault) few = (few, refl)
+fails_within limit piece (Err fail.NoMemory) few = tt
+
+-- where memory was refused nothing is said
+pub no_memory_within : {T : Type 0} (limit : ℕ) (piece : List ℕ) (ended : Bool) (result : Result T ReadFail) → (y : ReadFail) × (result ≡ Err y) × (y ≡ fail.NoMemory) → FailsWithin limit piece ended result
+no_memory_within limit piece ended result p = subst (FailsWithin limit piece ended) (sym (p.1 ∙ ap Err p.2)) tt

@@ -1,7 +1,7 @@
 -- What the reading of a file through a taker gives.
 use Rattle.std.specs.Prelude.{◌≡◌, ℕ, ◌<◌, ◌≤◌, Bool, true, List, length, Option, Some, None, Result, IfOk}
 use Rattle.pq_io.specs.Taken.{Taken}
-use Rattle.pq_io.specs.Whole.{HandsOutPart}
+use Rattle.pq_io.specs.Whole.{HandsOutPart, FailsWithin}
 use Rattle.pq_io.specs.declared.error.ReadFail.{ReadFail}
 
 -- what was made is made of what was handed out: all of it up to the end, or none of more than the limit
@@ -13,3 +13,4 @@ IsMadeOf limit makes piece ended None = limit < length piece
 abbrev pub HandsOutThrough : {M : Type 0} → ℕ → (List ℕ → M → Type 0) → Option (List ℕ) → Option (List ℕ) → List Taken → List Taken → Result (Option M) ReadFail → Type 0
 HandsOutThrough limit makes left_old left_new old new result =
     (piece : List ℕ) × (ended : Bool) × HandsOutPart left_old left_new old new piece ended × IfOk result (IsMadeOf limit makes piece ended)
+    × FailsWithin limit piece ended result

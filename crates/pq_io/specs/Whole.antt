@@ -1,5 +1,5 @@
 -- What the reading of a whole file gives.
-use Rattle.std.specs.Prelude.{◌≡◌, ⊤, ℕ, ◌<◌, ◌≤◌, Bool, true, List, length, vec_len, Option, Result, Ok, Err, IfOk}
+use Rattle.std.specs.Prelude.{◌≡◌, ⊤, ℕ, ◌<◌, ◌≤◌, Bool, true, false, List, length, vec_len, Option, Result, Ok, Err, IfOk}
 use Rattle.std.specs.Io.KnownBytes.{Consumes, IsAtEnd}
 use Rattle.pq_io.specs.Faults.{Rose}
 use Rattle.pq_io.specs.Taken.{Taken, handed_out}
@@ -51,7 +51,14 @@ pub record HandsOutPart (left_old left_new : Option (List ℕ)) (old new : List 
   pub consumed : Consumes left_old left_new piece
   pub end : ended ≡ true → IsAtEnd left_new
 
+-- a read failed before the end was seen, and before more than the limit had come
+abbrev pub FailsWithin : {T : Type 0} → ℕ → List ℕ → Bool → Result T ReadFail → Type 0
+FailsWithin limit piece ended (Ok _) = ⊤
+FailsWithin limit piece ended (Err fail.Fault) = (length piece ≤ limit) × (ended ≡ false)
+FailsWithin limit piece ended (Err fail.NoMemory) = ⊤
+
 -- the reads of a whole file handed out what was read of it, or some bytes where one failed
 abbrev pub HandsOutWhole : ℕ → Option (List ℕ) → Option (List ℕ) → List Taken → List Taken → Result Whole ReadFail → Type 0
 HandsOutWhole limit left_old left_new old new result =
     (piece : List ℕ) × (ended : Bool) × HandsOutPart left_old left_new old new piece ended × IfOk result (IsHandedOut limit piece ended)
+    × FailsWithin limit piece ended result

@@ -1,4 +1,4 @@
-use Rattle.std.proofs.Common.{◌∙◌, [], Some, ap}
+use Rattle.std.proofs.Common.{◌∙◌, [], Some, inr, ap}
 use Rattle.std.specs.Prelude.{unwrap_or}
 use Rattle.pq_io.specs.NeverShelf.{Kept, content_or_empty}
 use Rattle.command_input.specs.Words.{texts, command_of}
@@ -23,5 +23,6 @@ returns g c =
           (ap (λ o. Some (unwrap_or o [])) c.in_ok-add-2.ensures.added) (taken_since old.taken new.taken) before after (g.P.Sink.faults c.args.out.now) (g.P.Sink.faults c.run.new.out) c.args.kind.now status
           (texts c.deref.result.now) words
           (ends_over (λ (shelf : Kept) name. Some (content_or_empty shelf.files name)) (λ (shelf : Kept). shelf.taken) old new found before after status run.files run.output run.words run.status)
-          run.write_fault;
+          run.write_fault (λ six. let same = run.unwritten (inr (inr (inr six))) in (ap g.P.Sink.written same, ap g.P.Sink.faults same));
+      err = tt;
     }

@@ -1,4 +1,4 @@
-use Rattle.std.proofs.Common.{◌≡◌, ◌+◌, ◌≤◌, List, ℕ, length, take, sum_by}
+use Rattle.std.proofs.Common.{◌≡◌, ◌+◌, List, ℕ, length, take, sum_by}
 use Rattle.column_order.specs.Orders.{IsValidOrder}
 use Rattle.row_model.specs.Positions.{ArePositions}
 use Rattle.open_gaps.specs.Gaps.{AreGaps}

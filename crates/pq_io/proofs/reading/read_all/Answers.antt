@@ -3,7 +3,7 @@ use Rattle.std.proofs.lemmas.Bool.{false≢true}
 use Rattle.std.proofs.lemmas.List.{length-take-le}
 use Rattle.std.specs.Prelude.{IfSome}
 use Rattle.std.specs.Io.KnownBytes.{Consumes}
-use Rattle.pq_io.proofs.Handed.{handed_out-nil, goes_on-more, goes_on-end}
+use Rattle.pq_io.proofs.Handed.{handed_out-nil, goes_on-more, goes_on-end, fails_within}
 use Rattle.pq_io.proofs.Pieces.{Consumes-take}
 use Rattle.pq_io.proofs.reading.read_all.Goals as goal
 
@@ -46,6 +46,7 @@ returns-then-n-eq0-clause-taken g c = (
     end = λ is. c.in_ok-n.ensures.end c.if-n-eq0.true;
   },
   (c.shrink_to_fit.ensures.items ∙ c.truncate.ensures.items, refl),
+  tt,
 )
 
 pub returns-clause-whole : goal.returns-clause-whole
@@ -64,4 +65,11 @@ returns-clause-taken g c =
         end = λ e. absurd (false≢true e);
       },
       omega (arith, some, c.loop-filled-test.false),
+      tt,
     )
+
+pub returns-in_err-n-clause-taken : goal.returns-in_err-n-clause-taken
+returns-in_err-n-clause-taken g c =
+    let some = length-take-le c.loop-filled.filled c.loop-filled.bytes.items (omega (arith, c.loop-filled.invariant.within, c.loop-filled.bytes.ok)) in
+    let fails = fails_within c.args.limit (take c.loop-filled.filled c.loop-filled.bytes.items) c.from_residual.result (omega (arith, some, c.loop-filled-test.true)) in
+    search (rules, fails)

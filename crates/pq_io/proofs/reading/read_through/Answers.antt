@@ -2,6 +2,7 @@ use Rattle.std.proofs.Common.{◌≡◌, ◌+◌, ◌≤◌, ◌++◌, ◌∙◌
 use Rattle.std.proofs.lemmas.List.{length-take-le, with_items_is}
 use Rattle.std.proofs.lemmas.Result.{err_from_is_err_and}
 use Rattle.std.specs.Vec.{with_items}
+use Rattle.pq_io.proofs.Handed.{fails_within, no_memory_within}
 use Rattle.pq_io.proofs.Through.{begin_through, through_more, part_end, made_end, through_over}
 use Rattle.pq_io.proofs.reading.read_through.Goals as goal
 
@@ -20,7 +21,8 @@ pub returns-in_err-finish-clause-taken : goal.returns-in_err-finish-clause-taken
 returns-in_err-finish-clause-taken g c =
     let before = c.loop-total.invariant.through in
     let part = part_end _ _ _ _ _ _ _ before.0 _ _ _ _ before.1 c.read_on.ensures.front _ _ c.in_ok-n.ensures.read c.in_ok-n.ensures.taken c.if-n-eq0.true c.in_ok-n.ensures.end in
-    (before.0, true, part, let p = err_from_is_err_and c.from_residual-in_err-finish.result c.from_residual-in_err-finish.ensures.1 in rw p.1 tt)
+    let p = err_from_is_err_and c.from_residual-in_err-finish.result c.from_residual-in_err-finish.ensures.1 in
+    (before.0, true, part, rw p.1 tt, no_memory_within _ _ _ _ p)
 
 pub returns-then-n-eq0-clause-taken : goal.returns-then-n-eq0-clause-taken
 returns-then-n-eq0-clause-taken g c =
@@ -29,14 +31,15 @@ returns-then-n-eq0-clause-taken g c =
     let finished : g.T.Taker.makes c.loop-total.taker (take c.loop-total.filled c.read_on.new.bytes.items) c.in_ok-finish.field-0 =
     subst (λ text. g.T.Taker.makes c.loop-total.taker (take c.loop-total.filled text) c.in_ok-finish.field-0) c.deref.ensures.value c.in_ok-finish.ensures in
     let made = made_end _ _ _ _ _ _ _ before.0 _ _ _ _ before.1 c.read_on.ensures.front _ _ c.in_ok-n.ensures.read c.in_ok-n.ensures.taken c.args.limit c.in_ok-finish.field-0 c.loop-total-test.true finished in
-    (before.0, true, part, made)
+    (before.0, true, part, made, tt)
 
 pub returns-in_err-next-clause-taken : goal.returns-in_err-next-clause-taken
 returns-in_err-next-clause-taken g c =
     let before = c.loop-total.invariant.through in
     let room : c.loop-total.filled + c.in_ok-n.n ≤ length c.read_on.new.bytes.items = omega (arith, c.in_ok-n.ensures.room, c.read_on.new.bytes.ok) in
     let more = through_more _ _ _ _ _ _ _ before.0 _ _ _ _ before.1 c.read_on.ensures.front _ _ c.in_ok-n.ensures.read c.in_ok-n.ensures.taken c.if-n-eq0.false room in
-    (_, false, more.part, let p = err_from_is_err_and c.from_residual-in_err-next.result c.from_residual-in_err-next.ensures.1 in rw p.1 tt)
+    let p = err_from_is_err_and c.from_residual-in_err-next.result c.from_residual-in_err-next.ensures.1 in
+    (_, false, more.part, rw p.1 tt, no_memory_within _ _ _ _ p)
 
 pub loop-total-preserved-then-filled-full : goal.loop-total-preserved-then-filled-full
 loop-total-preserved-then-filled-full g c =
@@ -136,4 +139,10 @@ returns-clause-cause g c =
 pub returns-clause-taken : goal.returns-clause-taken
 returns-clause-taken g c =
     let before = c.loop-total.invariant.through in
-    (before.0, false, before.1.part, omega (arith, before.1.count, c.loop-total-test.false))
+    (before.0, false, before.1.part, omega (arith, before.1.count, c.loop-total-test.false), tt)
+
+pub returns-in_err-n-clause-taken : goal.returns-in_err-n-clause-taken
+returns-in_err-n-clause-taken g c =
+    let before = c.loop-total.invariant.through in
+    let fails = fails_within c.args.limit before.0 c.from_residual.result (omega (arith, before.1.count, c.loop-total-test.true)) in
+    search (rules, fails, before.1.part)

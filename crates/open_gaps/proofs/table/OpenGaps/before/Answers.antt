@@ -1,7 +1,8 @@
-use Rattle.std.proofs.Common.{◌≡◌, ℕ, ◌-◌, List, slice_index, subst, arith}
+use Rattle.std.proofs.Common.{◌≡◌, ◌∙◌, ℕ, ◌-◌, List, slice_index, ap, subst, arith}
+use Rattle.row_model.specs.Graph.{pair}
 use Rattle.open_gaps.specs.Gaps.{Opens}
 use Rattle.open_gaps.proofs.Places.{Kept, kept}
-use Rattle.open_gaps.proofs.Steps.{opens_there, step_before}
+use Rattle.open_gaps.proofs.Steps.{opens_b, opens_there, step_before}
 use Rattle.open_gaps.proofs.table.OpenGaps.before.Goals as goal
 
 pub returns-in-None-clause-whole : goal.returns-in-None-clause-whole
@@ -21,3 +22,19 @@ returns-in-Some-clause-joined c =
     let opens : Opens rows o c.in-Some.row (c.place-x.result - 1) (slice_index o c.place-p.result) = rw c.in-Some.is at (c.opener.ensures rows o table.long (table.are rows are)) in
     step_before rows o table.order c.args.v c.requires c.place-x.result c.place-p.result c.column_at.result c.in-Some.row c.place-x.ensures.0 c.place-p.ensures.0 c.line_to.result c.line_to.ensures.0 c.line_to.ensures.1
     c.if-x-eq0.false c.place-x.ensures.1 c.column_at.ensures opens
+
+pub returns-in-Some-clause-opened : goal.returns-in-Some-clause-opened
+returns-in-Some-clause-opened c =
+    let o : List ℕ = c.args.self.now.order in
+    let table : Kept c.args.self.now c.deref.result.now = kept c.self.inside c.args.self.now c.deref.result.now c.self.invariant c.self.view_is c.deref.ensures.value in
+    λ rows are.
+    let opens : Opens rows o c.in-Some.row (c.place-x.result - 1) (slice_index o c.place-p.result) = rw c.in-Some.is at (c.opener.ensures rows o table.long (table.are rows are)) in (
+      c.place-x.result - 1,
+      omega (arith, c.if-x-eq0.false, c.place-x.ensures.0),
+      record {
+        k = c.in-Some.row;
+        opens = opens_b rows o table.order c.args.v c.requires c.in-Some.row (c.place-x.result - 1) c.place-p.result c.place-p.ensures.0 opens;
+        by_row = c.line_to.ensures.1;
+        to = c.line_to.ensures.0 ∙ ap (pair c.args.v.b) c.column_at.ensures;
+      },
+    )
