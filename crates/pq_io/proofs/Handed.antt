@@ -1,8 +1,7 @@
 -- Pieces that are handed out one after the other.
-use Rattle.std.proofs.Common.{◌≡◌, ◌≢◌, ◌≤◌, length, ℕ, zero, suc, ◌+◌, ◌==◌, take, drop, ◌∙◌, Bool, true, false, List, length, [], ◌∷◌, ◌++◌, refl, ap, subst, append-nil, append_assoc, sym, if◌then◌else◌, arith}
+use Rattle.std.proofs.Common.{◌≡◌, ◌≢◌, ◌≤◌, ℕ, zero, suc, ◌+◌, ◌==◌, take, drop, ◌∙◌, Bool, true, false, List, length, [], ◌∷◌, ◌++◌, Result, Ok, Err, refl, ap, subst, append-nil, append_assoc, sym, if◌then◌else◌, arith}
 use Rattle.std.proofs.lemmas.Grind.{common_steps}
 use Rattle.std.proofs.Math.Seq.{take-add}
-use Rattle.std.proofs.Common.{Result, Ok, Err}
 use Rattle.pq_io.specs.Taken.{Taken, read_on, handed_out}
 use Rattle.pq_io.specs.Whole.{FailsWithin}
 use Rattle.pq_io.specs.declared.error.ReadFail.{ReadFail}
