@@ -17,6 +17,7 @@ The last line is `N passed, N failed`; the status is 0 where nothing failed.
 
 import concurrent.futures
 import contextlib
+import multiprocessing
 import os
 import shutil
 import subprocess
@@ -55,6 +56,8 @@ from streams import difference, streams
 from trees import written
 
 NOBODY = 65534
+# So few that no processor is left with many of the long ones.
+CHECKS_AT_A_TIME = 4
 
 
 class Report:
@@ -152,12 +155,29 @@ def on_pages():
             yield f"recipes on a table with blanks: {command}", problem
 
 
+class Inherited:
+    """The checks that a process which is forked finds in its memory: what some are handed can't be sent to it."""
+
+    checks = []
+
+    @classmethod
+    def take(cls, checks):
+        """Takes them over, in a process that begins."""
+        cls.checks = checks
+
+    @classmethod
+    def problem(cls, number):
+        """What is wrong by the check of a number, or None."""
+        _, check, given = cls.checks[number]
+        return check(*given)
+
+
 def side_by_side():
     """The checks that need no folder of their own, on all processors."""
-    with concurrent.futures.ThreadPoolExecutor(os.cpu_count()) as pool:
-        running = [(name, pool.submit(check, *given)) for name, check, given in without_folders()]
-        for name, problem in running:
-            yield name, problem.result()
+    checks = list(without_folders())
+    forking = multiprocessing.get_context("fork")
+    with concurrent.futures.ProcessPoolExecutor(os.cpu_count(), forking, Inherited.take, (checks,)) as pool:
+        yield from zip((name for name, *_ in checks), pool.map(Inherited.problem, range(len(checks)), chunksize=CHECKS_AT_A_TIME))
 
 
 def without_folders():

@@ -3,6 +3,7 @@
 It is tried once with the toolchain, and else with a stand-in that prints what it was handed.
 """
 
+import concurrent.futures
 import os
 import subprocess
 import sys
@@ -63,11 +64,12 @@ def no_answer(folder):
 def as_the_program(folder):
     """With the toolchain: the bytes and the status are those of the program."""
     text = os.path.join(HOME, "examples", "nested.txt")
-    for words in (["list", "matrix", os.path.relpath(text, folder), "2"], ["solve", "rows", text]):
-        wanted = run([*words[:2], text, *words[3:]])
-        given = call(words, folder)
-        if given != (wanted.returncode, wanted.stdout, SAYS + wanted.stderr):
-            return f"{words}: {given}"
+    tried = (["list", "matrix", os.path.relpath(text, folder), "2"], ["solve", "rows", text])
+    with concurrent.futures.ThreadPoolExecutor(len(tried)) as pool:
+        for words, given in zip(tried, pool.map(lambda words: call(words, folder), tried)):
+            wanted = run([*words[:2], text, *words[3:]])
+            if given != (wanted.returncode, wanted.stdout, SAYS + wanted.stderr):
+                return f"{words}: {given}"
     return None
 
 

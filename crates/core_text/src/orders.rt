@@ -7,10 +7,19 @@ use std::alloc::Global;
 use std::marker::Model;
 
 /// Lists of columns, which lie one after another in one list.
-#[derive(Drop)]
 pub struct Orders {
     columns: Vec<u32>,
     ends: Vec<usize>,
+}
+
+// By hand, so that a place where it is dropped proves one call and does not take its parts apart.
+impl Drop for Orders {
+    fn drop(self) {
+        let Orders {
+            columns: _columns,
+            ends: _ends,
+        } = self;
+    }
 }
 
 impl Model for Orders {

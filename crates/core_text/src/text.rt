@@ -8,13 +8,25 @@ use std::marker::Model;
 
 /// A kind, a number of columns, and rows with an order for each and the lines of a cycle: the parts of a core, of which
 /// nothing need be true.
-#[derive(Drop)]
 pub struct CoreText {
     pub(crate) kind: Kind,
     pub(crate) columns: u32,
     pub(crate) rows: Vec<u32>,
     pub(crate) orders: Orders,
     pub(crate) lines: Lines,
+}
+
+// By hand, so that a place where it is dropped proves one call and does not take its parts apart.
+impl Drop for CoreText {
+    fn drop(self) {
+        let CoreText {
+            kind: _kind,
+            columns: _columns,
+            rows: _rows,
+            orders: _orders,
+            lines: _lines,
+        } = self;
+    }
 }
 
 impl Model for CoreText {

@@ -17,7 +17,6 @@ use std::marker::Model;
 use step_count::{Ledger, Steps};
 
 /// The room of a full pass, taken once for all rows, and the members that it found last.
-#[derive(Drop)]
 pub struct FullWork {
     entries: Entries,
     pace: Pace,
@@ -25,6 +24,20 @@ pub struct FullWork {
     count: usize,
     others: Vec<NodeId>,
     other_count: usize,
+}
+
+// By hand, so that a place where it is dropped proves one call and does not take its parts apart.
+impl Drop for FullWork {
+    fn drop(self) {
+        let FullWork {
+            entries: _entries,
+            pace: _pace,
+            members: _members,
+            count: _count,
+            others: _others,
+            other_count: _other_count,
+        } = self;
+    }
 }
 
 impl Model for FullWork {

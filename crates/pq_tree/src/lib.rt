@@ -95,11 +95,20 @@ impl Tree {
 }
 
 /// A proper tree over the columns 1 to c.
-#[derive(Drop)]
 pub struct PqTree {
     columns: u32,
     tree: Tree,
     pub ghost proper: { IsProper columns (outline_of tree) } by { IsProper-prop columns (outline_of tree) },
+}
+
+// By hand, so that a place where it is dropped proves one call and does not take its parts apart.
+impl Drop for PqTree {
+    fn drop(self) {
+        let PqTree {
+            columns: _columns,
+            tree: _tree,
+        } = self;
+    }
 }
 
 impl PqTree {
@@ -132,7 +141,8 @@ impl PqTree {
     pub fn into_tree(self) -> Tree
         ensures { outline_of result ≡ outline self }
     {
-        self.tree
+        let PqTree { columns: _, tree } = self;
+        tree
     }
 
     /// The tree itself.
