@@ -279,19 +279,26 @@ def measured(words, content, given=None):
         return run_measured([PROGRAM, *words, file], given)
 
 
+def averaged(rounds, *run):
+    """A run that is made so many times in a row, with the seconds that it took in the mean."""
+    made = [measured(*run) for _ in range(rounds)]
+    given, cost = made[0]
+    return given, cost._replace(seconds=sum(one.seconds for _, one in made) / rounds)
+
+
 def turns(*runs):
-    """Of each of these runs, which are made in turns, the try that took the least time so far: after as many turns as there are at the least, and
-    after each further one."""
-    least = [measured(*run) for run in runs]
+    """Of each of these runs, which are made in turns, each so many times in a row, the turn that took the least time so far: after as many turns
+    as there are at the least, and after each further one."""
+    least = [averaged(*run) for run in runs]
     for turn in range(2, MOST_TRIES + 1):
-        least = [min(one, measured(*run), key=lambda given: given[1].seconds) for one, run in zip(least, runs)]
+        least = [min(one, averaged(*run), key=lambda given: given[1].seconds) for one, run in zip(least, runs)]
         if turn >= TRIES:
             yield least
 
 
 def least_measured(*runs):
     """Of each of these runs, which are made in turns, the try that took the least time."""
-    return next(turns(*runs))
+    return next(turns(*((1, *run) for run in runs)))
 
 
 def rows_alike(count):
@@ -306,10 +313,10 @@ def rows_alike(count):
 
 def many_orders_problem():
     """What is wrong with how long the orders of a core are judged, or None: those of as many rows as a file has room for within the bound, and
-    twice as many in about twice the time."""
+    twice as many in about twice the time. Half as many are judged twice in a row, so that what else the machine does slows both alike."""
     counts = [MOST_ROWS // 2, MOST_ROWS]
     files = [rows_alike(count) for count in counts]
-    for runs in turns(*((["check-core", "matrix", "-"], text, matrix) for matrix, text in files)):
+    for runs in turns(*((MOST_ROWS // count, ["check-core", "matrix", "-"], text, matrix) for count, (matrix, text) in zip(counts, files))):
         half, whole = (cost.seconds for _, cost in runs)
         if whole <= MOST_GROWTH * half:
             break
