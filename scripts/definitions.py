@@ -28,9 +28,9 @@ CALL = ("crates/pq_cli/src/top.rt", "run")
 # The clause on the status alone, and the one that says the whole promise, with the definition that says it command by command.
 ANSWER = "answer"
 PROMISE = "promise"
-PROMISED = ("crates/reply_laws/specs/Promise.antt", "IsPromised")
+PROMISED = ("crates/pq_cli/specs/Promised.antt", "IsPromised")
 # The traits of the files and the streams that the call is handed.
-TRAITS = [("crates/pq_io/src/shelf.rt", "Shelf"), ("crates/pq_io/src/sink.rt", "Sink")]
+TRAITS = [("crates/file_io/src/shelf.rt", "Shelf"), ("crates/file_io/src/sink.rt", "Sink")]
 # The crates whose laws say what replies mean.
 LAWS = ["pq_cli", "one_text", "memory_run"]
 # The call of the library.

@@ -5,15 +5,15 @@
 # loop goes. They go over a table that is set up or handed out once; up a set of pairs; over rows of which some have no ones; over the
 # lines of a walk that is found; over the few columns, rows, ways and pivots that an attempt takes. Or they are the judge's.
 UNTICKED = {
-    "pair_classes": {"classes_of k": 2, "unite_along": 1, "unite_with": 2, "unite": 2, "marks.rt/new": 1, "numbers.rt/new": 1, "each_alone": 1, "root_of": 1, "flatten": 1},
-    "odd_cycle": {"short_cycle": 4, "cut": 1, "has_flip": 1, "sorted_columns": 2, "is_rising": 1, "is_folded": 2},
-    "open_gaps": {"cover": 1, "of_parts": 1, "gaps_of_all": 4, "gaps_of": 3, "take_row": 1, "new": 1, "of_rows": 1, "span_in_order": 1},
+    "odd_cycle": {"short_cycle": 4, "cut": 1, "has_flip": 1, "sorted_columns": 2, "is_rising": 1, "is_folded": 2, "marks.rt/new": 1, "numbers.rt/new": 1},
+    "pair_classes": {"classes_of k": 2, "unite_along": 1, "unite_with": 2, "unite": 2, "each_alone": 1, "root_of": 1, "flatten": 1},
+    "open_gaps": {"cover": 1, "of_parts": 1, "gaps_of": 3, "take_row": 1, "new": 1},
     "walk_search": {"way_down": 2, "add_way_up": 1, "closed_walk": 2, "rows_by_column k": 1, "joined": 1, "simple_cycle": 1, "new": 1, "search": 3, "search_along": 2},
     "border_ways": {
         "walk_around": 3, "add_forth": 1, "add_back": 1, "columns_near": 2, "openers": 2, "odd_links": 3, "ended_there": 1,
         "odd_circle": 4, "circle_by": 4, "first_left": 2, "place_among": 1, "spread": 3, "path_up": 1, "add_lines": 1, "settle": 4, "add_spread": 1,
     },
-    "incompat_graph": {
+    "short_cycles": {
         "is_odd_walk": 1, "lines_of": 1, "part_of": 2, "without_repeats": 4, "is_folded_walk": 1, "lines_in": 1, "any_cycle": 1, "quick_cycle": 1,
     },
 }

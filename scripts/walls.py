@@ -33,7 +33,7 @@ Usage: scripts/walls.py
    scripts/loops.py lists the loops that need not, and with them what else goes over a list: calls, a `vec!` of many items, two lists that are compared. It says
    how many there are in each function, so one more is found too. A turn that calls one of these functions is one of them. No struct there
    can be compared or copied with all of a list that it has. No function of these crates calls itself.
-11. Who may search: verdict_check names no search, and the crates of the replies and of the program stand on no crate that reduces or
+11. Who may search: verdict_judge names no search, and the crates of the replies and of the program stand on no crate that reduces or
    searches but c1p_solve.
 12. The solver reads no row: c1p_solve does nothing with a matrix but ask how many rows and columns it has, add and remove its last row,
    and hand it to its own functions, to the reducer, with the number of one row, and to the search.
@@ -66,12 +66,12 @@ from loops import HEADS, IN_PLACE, PATH_SAMPLES, RECALLED, SAMPLE_LISTS, SAMPLES
 
 HOME = os.path.dirname(os.path.dirname(os.path.abspath(__file__)))
 # The crates whose definitions everything shares; docs/DECISIONS.md says why they offer their lemmas too.
-SHARED_PROOFS = {"column_order", "plain_text", "text_parts", "core_text", "row_model", "pair_classes", "text_lines", "pq_tree", "tied_law", "template_theory", "row_core", "arena_model", "template_model"}
+SHARED_PROOFS = {"column_order", "plain_text", "text_parts", "core_text", "row_model", "odd_cycle", "text_lines", "pq_tree", "tree_theory", "row_core", "arena_model", "template_model"}
 COUNTERS = {"step_count", "bubble_bench", "order_example"}
 # The functions of the top call that make the counter of a run.
 RUN_COUNTER = {"run", "run_from"}
 # The public calls whose signature has no place for a counter, by their crates: each with the function that makes a counter of its blank.
-UNLENT = {"bound_tree": ("is_complete", "is_complete_by"), "verdict_check": ("check", "check_by")}
+UNLENT = {"bound_tree": ("is_complete", "is_complete_by"), "verdict_judge": ("check", "check_by")}
 # The crate that looks at gaps on a counter, its one function that asks them, and the calls that tell of them.
 GAP_LOOKS = ("bound_tree", "is_open", re.compile(r"(?:\.(?:is_open|is_at_open_gap|before|behind)|OpenGaps::(?!new\b)\w+)\("))
 # How often the functions of the judge look at a row, or have it looked at, beside the steps that they count for it; and the files of calls that
@@ -85,18 +85,18 @@ WHOLE_TREE = ("crates/row_reduce/src/reducer.rt", "tree")
 # Calls besides that are promised to take no memory, by their crates.
 PROMISED = {
     "row_model": {"pop_row", "row", "has", "joined_by"}, "pair_classes": {"same"}, "walk_search": {"joined"}, "proper_interval": {"fits"},
-    "unit_model": {"unit_fits"}, "verdict_check": {"tree_holds", "check_unit"}, "command_input": {"task_of"},
+    "unit_model": {"unit_fits"}, "verdict_judge": {"tree_holds", "check_unit"}, "command_input": {"task_of"},
 }
 # The crates that search, and their functions that may name a matrix: those with a signature of their own, which hand its rows on as
 # `CountedRows`; those of the judge, who counts no steps; and those of the small matrix that an attempt makes for itself.
-SEARCHING = ["pair_classes", "odd_cycle", "open_gaps", "walk_search", "border_ways", "incompat_graph"]
+SEARCHING = ["odd_cycle", "pair_classes", "open_gaps", "walk_search", "border_ways", "short_cycles"]
 UNCOUNTED = {
-    "pair_classes": {"even_classes"},
     "odd_cycle": set(),
-    "open_gaps": {"of_rows", "gaps_of_all"},
+    "pair_classes": {"even_classes"},
+    "open_gaps": set(),
     "walk_search": {"odd_walk", "joined", "simple_cycle"},
     "border_ways": set(),
-    "incompat_graph": {"odd_cycle_along"},
+    "short_cycles": {"odd_cycle_along"},
 }
 # Of these, those that hand the matrix on.
 HANDING = {"even_classes", "odd_walk", "odd_cycle_along", "simple_cycle"}
@@ -109,9 +109,9 @@ VIEW_WALKS = {"span_counted": 1, "push_row": 1}
 # Calls of the crates below that go over a list or make a table, and are handed no counter.
 WALKS = re.compile(
     r"(?<![\w.:])(?:positions|span_of|is_order|is_kept|row_has|short_cycle|is_folded|sorted_columns|is_rising)\("
-    r"|\b(?:Marks|PairNumbers|Forest)::new\(|\bOpenGaps::of_rows\(|\.(?:push_row|keeps)\(")
+    r"|\b(?:Marks|PairNumbers|Forest)::new\(|\.(?:push_row|keeps)\(")
 SEARCHES = {"odd_walk", "odd_cycle_along", "shorter_cycle", "find_core", "walk_across", "walk_among", "simple_cycle"}
-JUDGE = "verdict_check"
+JUDGE = "verdict_judge"
 SOLVER = "c1p_solve"
 # What each function of the top call does with the sink of errors.
 TOLD = {
@@ -121,8 +121,8 @@ TOLD = {
     "tell": "report(&failure, err);",
 }
 # The crates that reduce or search, and those that reach them by the solver alone.
-BEHIND_SOLVER = {"pq_arena", "bubble_pass", "templates_q", "full_pass", "templates_p", "row_reduce", "walk_search", "border_ways", "incompat_graph", "pq_plain"}
-BEFORE_SOLVER = ["solve_replies", "reply_laws", "pq_cli", "pq", "pq_gen", "memory_run", "pq_c"]
+BEHIND_SOLVER = {"pq_arena", "bubble_pass", "templates_q", "full_pass", "templates_p", "row_reduce", "walk_search", "border_ways", "short_cycles", "incompat_graph", "pq_plain"}
+BEFORE_SOLVER = ["solve_replies", "pq_cli", "pq", "pq_gen", "memory_run", "pq_c"]
 PYTHON = ["end_to_end", "bench", "scripts"]
 CONTRACTS = os.path.join("docs", "CONTRACTS.md")
 PROMISES = os.path.join("docs", "PROMISES.md")

@@ -8,8 +8,8 @@ use Rattle.column_order.proofs.Lists.{at_place}
 use Rattle.row_model.specs.declared.graph.Pair.{Pair}
 use Rattle.row_model.specs.Graph.{pair}
 use Rattle.pq_tree.specs.Outline.{Outline, Forest, leaf, p_node, q_node, no_tree, tree_and, leaves, leaves_of}
-use Rattle.tied_law.specs.Tied.{IsForward, IsClosed, IsInLine}
-use Rattle.tied_law.proofs.Bound.{IsPairEq}
+use Rattle.tree_theory.specs.Tied.{IsForward, IsClosed, IsInLine}
+use Rattle.tree_theory.proofs.Bound.{IsPairEq}
 use Rattle.bound_tree.specs.declared.stretch.Stretch.{Stretch}
 use Rattle.bound_tree.specs.Stretches.{stretch, stretches, stretches_of, starts, whole_stretches, near_stretches}
 use Rattle.bound_tree.proofs.Cells.{cell}

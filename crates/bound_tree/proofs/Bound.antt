@@ -10,8 +10,8 @@ use Rattle.row_model.specs.declared.graph.Pair.{Pair}
 use Rattle.pq_tree.specs.Outline.{Outline, Forest, leaf, p_node, q_node, no_tree, tree_and, leaves, leaves_of}
 use Rattle.pq_tree.specs.Nodes.{IsNode, IsNodeOf}
 use Rattle.pq_tree.specs.Proper.{HasArities, HaveArities}
-use Rattle.tied_law.specs.Tied.{IsForward, IsClosed, IsInLine}
-use Rattle.tied_law.proofs.Bound.{IsPairEq}
+use Rattle.tree_theory.specs.Tied.{IsForward, IsClosed, IsInLine}
+use Rattle.tree_theory.proofs.Bound.{IsPairEq}
 use Rattle.bound_tree.specs.Stretches.{stretch, stretches, stretches_of, starts, whole_stretches, near_stretches}
 use Rattle.bound_tree.proofs.Alike.{AlikeAt, IsAlike}
 use Rattle.bound_tree.proofs.Cells.{cell}

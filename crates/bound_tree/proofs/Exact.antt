@@ -9,8 +9,8 @@ use Rattle.pq_tree.specs.Outline.{Outline, q_node, leaves}
 use Rattle.pq_tree.specs.Proper.{HasArities}
 use Rattle.open_gaps.specs.declared.gap.Gap.{Gap}
 use Rattle.open_gaps.specs.Gaps.{IsOpen, IsGap, AreGaps}
-use Rattle.tied_law.specs.Tied.{AreTogether, AreInLine}
-use Rattle.tied_law.proofs.Bridge.{evenly_eq}
+use Rattle.tree_theory.specs.Tied.{AreTogether, AreInLine}
+use Rattle.tree_theory.proofs.Bridge.{evenly_eq}
 use Rattle.bound_tree.specs.declared.stretch.Stretch.{Stretch}
 use Rattle.bound_tree.specs.Stretches.{stretches}
 use Rattle.bound_tree.specs.Free.{IsRoundGap, IsFree, LeadsBehind, LeadsBefore}

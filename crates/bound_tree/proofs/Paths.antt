@@ -4,7 +4,7 @@ use Rattle.column_order.specs.Orders.{IsValidOrder}
 use Rattle.row_model.specs.declared.graph.Pair.{Pair}
 use Rattle.row_model.specs.Graph.{Evenly}
 use Rattle.open_gaps.specs.Gaps.{IsOpen}
-use Rattle.tied_law.proofs.Bridge.{evenly_eq}
+use Rattle.tree_theory.proofs.Bridge.{evenly_eq}
 use Rattle.bound_tree.specs.Free.{LeadsBehind, LeadsBefore}
 use Rattle.bound_tree.proofs.Cells.{cell, open_evenly, open_behind, open_before}
 

@@ -1,8 +1,9 @@
 -- Where the children of a node begin.
 use Rattle.std.proofs.Common.{◌≡◌, ◌∙◌, ℕ, zero, suc, ◌+◌, ◌-◌, ◌<◌, ◌≤◌, length, slice_index, refl, ap, sym, subst, arith, length-append}
-use Rattle.pq_tree.specs.Outline.{Outline, Forest, leaf, p_node, q_node, no_tree, tree_and, leaves, leaves_of}
-use Rattle.pq_tree.specs.Proper.{count, HasArities, HaveArities}
+use Rattle.pq_tree.specs.Outline.{Forest, no_tree, tree_and, leaves, leaves_of}
+use Rattle.pq_tree.specs.Proper.{count, HaveArities}
 use Rattle.bound_tree.specs.Stretches.{starts}
+use Rattle.pq_tree.proofs.Forests.{leaves_some}
 
 pub starts_length : (s : ℕ) (ts : Forest) → length (starts s ts) ≡ count ts + 1
 starts_length s no_tree = refl
@@ -31,21 +32,10 @@ starts_within s (tree_and t ts) (suc i) h =
     let r = starts_within (s + length (leaves t)) ts i (omega arith) in
     (omega (arith, r.0), omega (arith, r.1, length-append (leaves t) (leaves_of ts)))
 
--- proper trees have leaves
-mutual
-  pub some_leaf : (t : Outline) → HasArities t → 1 ≤ length (leaves t)
-  some_leaf (leaf a) h = omega arith
-  some_leaf (p_node ts) h = omega (arith, some_leaves ts h.1, h.0)
-  some_leaf (q_node ts) h = omega (arith, some_leaves ts h.1, h.0)
-
-  pub some_leaves : (ts : Forest) → HaveArities ts → count ts ≤ length (leaves_of ts)
-  some_leaves no_tree h = omega arith
-  some_leaves (tree_and t ts) h = omega (arith, some_leaf t h.0, some_leaves ts h.1, length-append (leaves t) (leaves_of ts))
-
 -- each child of a proper tree begins before the next one
 pub starts_rise : (s : ℕ) (ts : Forest) → HaveArities ts → (i : ℕ) → i + 1 < length (starts s ts) → slice_index (starts s ts) i < slice_index (starts s ts) (i + 1)
 starts_rise s no_tree h i l = absurd (omega arith)
-starts_rise s (tree_and t ts) h zero l = omega (arith, starts_first (s + length (leaves t)) ts, some_leaf t h.0)
+starts_rise s (tree_and t ts) h zero l = omega (arith, starts_first (s + length (leaves t)) ts, leaves_some t h.0)
 starts_rise s (tree_and t ts) h (suc i) l =
     let e : suc i + 1 ≡ suc (i + 1) = omega arith in
     subst (λ j. slice_index (starts (s + length (leaves t)) ts) i < slice_index (starts s (tree_and t ts)) j) (sym e) (starts_rise (s + length (leaves t)) ts h.1 i (omega arith))

@@ -10,7 +10,7 @@ ghost use Rattle.std.specs.Prelude.{◌≡◌, ◌↔◌, ◌+◌, ◌*◌, ◌<
 ghost use Rattle.column_order.specs.Orders.{Keeps};
 ghost use Rattle.pq_tree.specs.Outline.{leaves};
 ghost use Rattle.pq_tree.specs.PqTree.{column_count, outline};
-ghost use Rattle.tied_law.specs.Tied.{AreTogether, AreInLine};
+ghost use Rattle.tree_theory.specs.Tied.{AreTogether, AreInLine};
 
 mod free;
 mod side;

@@ -18,13 +18,13 @@ use Rattle.pq_tree.specs.PqTree.{outline, column_count}
 use Rattle.pq_tree.specs.declared.PqTree.{PqTree}
 use Rattle.odd_cycle.specs.Short.{IsShort}
 use Rattle.row_judge.specs.declared.Judged.TheVariants.{No}
-use Rattle.template_theory.specs.Frugal.{IsFrugal}
-use Rattle.template_theory.specs.declared.reducer.Step.{Step}
-use Rattle.template_theory.specs.declared.reducer.Step.TheVariants.{Taken, Refused}
+use Rattle.tree_theory.specs.Frugal.{IsFrugal}
+use Rattle.tree_theory.specs.declared.reducer.Step.{Step}
+use Rattle.tree_theory.specs.declared.reducer.Step.TheVariants.{Taken, Refused}
 use Rattle.arena_model.specs.Layout.{Layout}
 use Rattle.arena_model.specs.NamedTree.{outline_at}
-use Rattle.tied_law.proofs.Exact.{tied_law}
-use Rattle.tied_law.specs.Tied.{IsTied}
+use Rattle.tree_theory.proofs.Exact.{tied_law}
+use Rattle.tree_theory.specs.Tied.{IsTied}
 use Rattle.c1p_solve.specs.Answers.{HasAllOrders, IsAnswer, IsInTurn}
 use Rattle.c1p_solve.specs.Growing.{HasRefused, HasTaken}
 use Rattle.c1p_solve.specs.Totals.{IsNoTotal, answer_steps, reduction_steps, search_steps}

@@ -13,8 +13,8 @@ use Rattle.pq_tree.specs.Proper.{columns}
 use Rattle.pq_tree.proofs.Universal.{columns_order}
 use Rattle.pq_tree.specs.PqTree.{outline, column_count}
 use Rattle.pq_tree.specs.declared.PqTree.{PqTree}
-use Rattle.tied_law.specs.Tied.{IsTied}
-use Rattle.tied_law.proofs.Exact.{tied_law}
+use Rattle.tree_theory.specs.Tied.{IsTied}
+use Rattle.tree_theory.proofs.Exact.{tied_law}
 use Rattle.c1p_solve.specs.Answers.{HasAllOrders}
 
 -- a valid order of some rows is one of the first of them

@@ -9,7 +9,7 @@ use Rattle.row_model.specs.Rows.{RowList}
 use Rattle.pq_tree.specs.Outline.{Outline}
 use Rattle.pq_tree.specs.Amortised.{nodes_met}
 use Rattle.pq_tree.specs.Proper.{IsProper}
-use Rattle.tied_law.specs.Tied.{IsTied}
+use Rattle.tree_theory.specs.Tied.{IsTied}
 use Rattle.c1p_solve.specs.Sessions.{SessionValue, IsSession, with_row}
 use Rattle.c1p_solve.specs.Taking.{IsDecision, StandsAfter}
 use Rattle.c1p_solve.specs.Totals.{search_steps}

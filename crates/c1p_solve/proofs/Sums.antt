@@ -7,10 +7,10 @@ use Rattle.row_model.specs.Graph.{row_at}
 use Rattle.pq_tree.specs.Outline.{Outline}
 use Rattle.pq_tree.specs.Amortised.{weight}
 use Rattle.pq_tree.specs.Proper.{universal}
-use Rattle.template_theory.specs.Frugal.{IsFrugal}
-use Rattle.template_theory.specs.WeightLaws.{UniversalWeightLaw}
-use Rattle.template_theory.specs.declared.reducer.Step.{Step}
-use Rattle.template_theory.specs.declared.reducer.Step.TheVariants.{Refused}
+use Rattle.tree_theory.specs.Frugal.{IsFrugal}
+use Rattle.tree_theory.specs.WeightLaws.{UniversalWeightLaw}
+use Rattle.tree_theory.specs.declared.reducer.Step.{Step}
+use Rattle.tree_theory.specs.declared.reducer.Step.TheVariants.{Refused}
 use Rattle.c1p_solve.specs.Totals.{reduction_steps, search_steps}
 
 -- the ones of one row more

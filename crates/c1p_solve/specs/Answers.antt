@@ -8,7 +8,7 @@ use Rattle.pq_tree.specs.Outline.{Outline, IsFrontier}
 use Rattle.pq_tree.specs.Canonical.{IsCanonical}
 use Rattle.pq_tree.specs.PqTree.{column_count, outline}
 use Rattle.pq_tree.specs.declared.PqTree.{PqTree}
-use Rattle.tied_law.specs.Tied.{IsTied}
+use Rattle.tree_theory.specs.Tied.{IsTied}
 use Rattle.row_judge.specs.Judges.{IsFirstConflict}
 use Rattle.odd_cycle.specs.Short.{IsShort}
 use Rattle.row_judge.specs.declared.Judged.{Judged}

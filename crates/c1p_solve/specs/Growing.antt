@@ -5,7 +5,7 @@ use Rattle.std.specs.Prelude.{◌≡◌, ◌+◌, ◌-◌, ◌≤◌, ℕ, Optio
 use Rattle.column_order.specs.Orders.{HasValidOrder}
 use Rattle.row_model.specs.Graph.{HasConflict}
 use Rattle.row_model.specs.Rows.{RowList}
-use Rattle.tied_law.specs.Tied.{IsTied}
+use Rattle.tree_theory.specs.Tied.{IsTied}
 use Rattle.c1p_solve.specs.Totals.{IsYesTotal, reduction_steps}
 
 -- it has taken these rows over c columns in turn, while the count of steps went from s to n: its tree is tied to them

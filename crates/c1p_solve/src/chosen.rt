@@ -10,7 +10,7 @@ use row_model::{Matrix, NoMemory};
 use row_reduce::ArenaReducer;
 use std::alloc::Global;
 use step_count::{Ledger, Steps};
-use template_theory::weight_law;
+use tree_theory::weight_law;
 
 /// The reducer by which matrices are solved.
 pub type Chosen = ArenaReducer;

@@ -8,12 +8,12 @@ ghost use Rattle.c1p_solve.specs.Totals.{IsNoTotal, answer_steps, reduction_step
 use crate::Solved;
 use crate::chosen::Chosen;
 use crate::solver::conflict;
-use incompat_graph::Cycle;
+use odd_cycle::Cycle;
 use pq_tree::PqTree;
 use row_model::{COLUMN_BOUND, Matrix, NoMemory};
 use std::alloc::Global;
 use step_count::{Ledger, Steps};
-use template_theory::{Reducer, Step, weight_law};
+use tree_theory::{Reducer, Step, weight_law};
 
 /// A reducer that has taken no row yet, over so many columns.
 ///

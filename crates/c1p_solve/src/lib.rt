@@ -13,4 +13,4 @@ pub use row_judge::Judged as Solved;
 pub use row_model::NoMemory;
 pub use session::{Session, Started, Taken};
 pub use solver::solve;
-pub use template_theory::Step;
+pub use tree_theory::Step;

@@ -5,7 +5,7 @@ ghost use Rattle.row_model.specs.Rows.{IsRow};
 ghost use Rattle.column_order.specs.Orders.{HasValidOrder};
 ghost use Rattle.pq_tree.specs.PqTree.{outline};
 ghost use Rattle.pq_tree.specs.Proper.{IsProper};
-ghost use Rattle.tied_law.specs.Tied.{IsTied};
+ghost use Rattle.tree_theory.specs.Tied.{IsTied};
 ghost use Rattle.arena_model.specs.NamedTree.{outline_at};
 ghost use Rattle.c1p_solve.specs.Answers.{HasAllOrders};
 ghost use Rattle.c1p_solve.specs.Sessions.{IsSession, with_row};
@@ -15,13 +15,13 @@ ghost use Rattle.c1p_solve.specs.SessionTotals.{IsStartTotal, IsRowTotal, IsRefu
 
 use crate::chosen::Chosen;
 use crate::solver::{conflict, reduce_all};
-use incompat_graph::Cycle;
+use odd_cycle::Cycle;
 use pq_tree::PqTree;
 use row_model::{Matrix, NoMemory, ROW_BOUND};
 use std::alloc::Global;
 use std::marker::Model;
 use step_count::{Ledger, Steps};
-use template_theory::{Reducer, Step, weight_law};
+use tree_theory::{Reducer, Step, weight_law};
 
 /// A matrix that has a valid order, and the reducer whose tree stands for all its valid orders. Further rows are
 /// taken as long as they leave one.

@@ -5,17 +5,18 @@ ghost use Rattle.row_model.specs.Cycles.{IsOddCycle};
 ghost use Rattle.pq_tree.specs.Amortised.{weight};
 ghost use Rattle.odd_cycle.specs.Short.{IsShort};
 ghost use Rattle.row_judge.specs.Blamed.{IsReason};
-ghost use Rattle.tied_law.specs.Tied.{IsTied};
+ghost use Rattle.tree_theory.specs.Tied.{IsTied};
 ghost use Rattle.c1p_solve.specs.Answers.{IsAnswer, IsReduction, LeavesTree, IsInTurn, IsReducedInTurn};
 ghost use Rattle.c1p_solve.specs.Totals.{IsTotal, IsReductionTotal, answer_steps};
 
 use crate::Solved;
-use incompat_graph::{Cycle, odd_cycle_along};
+use odd_cycle::Cycle;
 use row_judge::last_row_laws;
 use row_model::{Matrix, NoMemory};
+use short_cycles::odd_cycle_along;
 use std::alloc::Global;
 use step_count::{Ledger, Steps};
-use template_theory::{Reducer, Step};
+use tree_theory::{Reducer, Step};
 
 /// Solves a matrix by a reducer whose tree is universal over its columns, or any other tree that is tied to no rows:
 /// its frontiers are all orders of the columns.

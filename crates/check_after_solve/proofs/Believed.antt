@@ -3,14 +3,14 @@ use Rattle.std.proofs.Common.{IfSome, option_map, get_or, ◌≡◌, ◌≢◌, 
 use Rattle.std.specs.Io.KnownBytes.{Appends}
 use Rattle.row_model.specs.declared.kind.Kind.{Kind}
 use Rattle.row_model.specs.declared.refusal.Refusal.{Refusal}
-use Rattle.pq_io.specs.Taken.{Taken}
+use Rattle.file_io.specs.Taken.{Taken}
 use Rattle.std.specs.Prelude.{◌↔◌, IsNone}
-use Rattle.pq_io.specs.Faults.{Rose}
-use Rattle.pq_io.specs.Sink.{AppendsPrefix}
+use Rattle.file_io.specs.Faults.{Rose}
+use Rattle.file_io.specs.Sink.{AppendsPrefix}
 use Rattle.command_input.specs.Words.{Command, Solve, Check, command_of, kind_of, files_of}
 use Rattle.command_input.specs.Instances.{instance_of}
-use Rattle.reply_laws.specs.Replies.{Replies, refused_at, refusal_of}
-use Rattle.reply_laws.specs.Check.{AgreedLaw}
+use Rattle.pq_cli.specs.Replies.{Replies, refused_at, refusal_of}
+use Rattle.pq_cli.specs.Check.{AgreedLaw}
 use Rattle.pq_cli.specs.Runs.{AllFit, AgreesWith, TakesFiles, TakesInTurn, WritesOut, CountsWrites, EndsAtRefusal, taken_since}
 use Rattle.pq_cli.specs.Real.{names_taken}
 use Rattle.pq_cli.specs.Told.{AllTold}

@@ -1,11 +1,11 @@
 -- What a check finds of what `solve` wrote. A shelf tells the bytes of its files.
 use Rattle.std.specs.Prelude.{◌≡◌, ◌≢◌, ◌⊎◌, ℕ, List, [], ◌∷◌, Option, None, codes}
 use Rattle.std.specs.Io.KnownBytes.{Appends}
-use Rattle.pq_io.specs.Faults.{Rose}
-use Rattle.pq_io.specs.Sink.{AppendsPrefix}
+use Rattle.file_io.specs.Faults.{Rose}
+use Rattle.file_io.specs.Sink.{AppendsPrefix}
 use Rattle.row_model.specs.declared.kind.Kind.{Kind}
 use Rattle.command_input.specs.Words.{Solve}
-use Rattle.reply_laws.specs.Replies.{Replies, refusal_of}
+use Rattle.pq_cli.specs.Replies.{Replies, refusal_of}
 use Rattle.check_after_solve.specs.declared.Ended.{Ended}
 use Rattle.check_after_solve.specs.declared.Ended.TheVariants.{Unsolved, Checked}
 

@@ -6,9 +6,8 @@ ghost use Rattle.command_input.specs.Words.{kind_of};
 ghost use Rattle.check_after_solve.specs.Agreed.{IsSolvedAs, IsFoundAs, IsEndOf};
 ghost use Rattle.check_after_solve.specs.declared.Ended.TheVariants.{Unsolved};
 
-use pq_cli::{run, told_law};
+use pq_cli::{run, solved_law, told_law};
 use pq_io::{MemSink, NeverShelf, NeverSink, NoMemory, Sink};
-use reply_laws::solved_law;
 use std::alloc::Global;
 
 /// How `solve` ended, and the check of what it wrote.

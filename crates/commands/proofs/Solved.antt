@@ -12,11 +12,11 @@ use Rattle.verdict_text.specs.declared.verdict.Version.{Version}
 use Rattle.verdict_text.specs.declared.verdict.Version.TheVariants.{Two}
 use Rattle.instance_model.specs.Instance.{InstanceValue, plain, circular, convex, doubly, proper, robinson, instance_kind, instance_columns, derived_matrix, IsPlainKind, IsSideOf, IsInstance, IsWellFormed}
 use Rattle.instance_model.specs.Laws.{ValidLaw}
-use Rattle.verdict_check.specs.Laws.{IsSolvedSide, YesLaw, NoLaw}
-use Rattle.verdict_check.specs.Truth.{IsTrueAddedTo, IsTrueAdded}
-use Rattle.verdict_check.specs.Accepted.{IsAccepted}
+use Rattle.verdict_judge.specs.Laws.{IsSolvedSide, YesLaw, NoLaw}
+use Rattle.verdict_judge.specs.Truth.{IsTrueAddedTo, IsTrueAdded}
+use Rattle.verdict_judge.specs.Accepted.{IsAccepted}
 use Rattle.verdict_replies.specs.Verdicts.{ShowsSide, ShowsSides, AddsToOrder, IsClaimOf, IsVerdictOf, IsVerdictReply, GrammarLaw, LengthLaw, ShownOrderLaw}
-use Rattle.exact_tree.specs.Laws.{ExactLaw}
+use Rattle.tree_theory.specs.ExactLaws.{ExactLaw}
 use Rattle.commands.specs.Judgements.{HasVerdict}
 use Rattle.commands.specs.Passed.{TiedSideLaw}
 

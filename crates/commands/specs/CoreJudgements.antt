@@ -4,9 +4,9 @@ use Rattle.std.specs.Fmt.{decimal}
 use Rattle.row_model.specs.declared.kind.Kind.{Kind}
 use Rattle.row_model.specs.Rows.{RowList}
 use Rattle.core_text.specs.Texts.{TextValue, IsInGrammar, core_text}
-use Rattle.verdict_check.specs.Core.{IsAcceptedCore, FailsCoreFirst}
-use Rattle.verdict_check.specs.declared.core_outcome.CoreReason.{CoreReason}
-use Rattle.verdict_check.specs.declared.core_outcome.CoreReason.TheVariants as reason
+use Rattle.verdict_judge.specs.Core.{IsAcceptedCore, FailsCoreFirst}
+use Rattle.verdict_judge.specs.declared.core_outcome.CoreReason.{CoreReason}
+use Rattle.verdict_judge.specs.declared.core_outcome.CoreReason.TheVariants as reason
 use Rattle.verdict_replies.specs.declared.TheConstants.{MAX_CORE_BYTES}
 use Rattle.commands.specs.Faults.{TellsFault}
 use Rattle.commands.specs.declared.core_judgement.CoreJudgement.{CoreJudgement}

@@ -5,9 +5,9 @@ use Rattle.verdict_text.specs.Verdict.{VerdictValue}
 use Rattle.verdict_text.specs.Grammar.{IsVerdict}
 use Rattle.verdict_text.specs.Text.{verdict_text}
 use Rattle.instance_model.specs.Instance.{InstanceValue}
-use Rattle.verdict_check.specs.Accepted.{IsAccepted, FailsFirst}
-use Rattle.verdict_check.specs.declared.outcome.Reason.{Reason}
-use Rattle.verdict_check.specs.declared.outcome.Reason.TheVariants as reason
+use Rattle.verdict_judge.specs.Accepted.{IsAccepted, FailsFirst}
+use Rattle.verdict_judge.specs.declared.outcome.Reason.{Reason}
+use Rattle.verdict_judge.specs.declared.outcome.Reason.TheVariants as reason
 use Rattle.verdict_replies.specs.declared.TheConstants.{MAX_VERDICT_BYTES}
 use Rattle.commands.specs.Faults.{TellsFault}
 use Rattle.commands.specs.declared.judgement.Judgement.{Judgement}

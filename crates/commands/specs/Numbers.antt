@@ -1,10 +1,10 @@
 -- The numbers that a check tells behind its words.
 use Rattle.std.specs.Prelude.{ℕ, List, [], ◌++◌, Option, Some, None, codes}
 use Rattle.std.specs.Fmt.{decimal}
-use Rattle.verdict_check.specs.declared.outcome.Reason.{Reason}
-use Rattle.verdict_check.specs.declared.outcome.Reason.TheVariants as reason
-use Rattle.verdict_check.specs.declared.core_outcome.CoreReason.{CoreReason}
-use Rattle.verdict_check.specs.declared.core_outcome.CoreReason.TheVariants as core_reason
+use Rattle.verdict_judge.specs.declared.outcome.Reason.{Reason}
+use Rattle.verdict_judge.specs.declared.outcome.Reason.TheVariants as reason
+use Rattle.verdict_judge.specs.declared.core_outcome.CoreReason.{CoreReason}
+use Rattle.verdict_judge.specs.declared.core_outcome.CoreReason.TheVariants as core_reason
 use Rattle.commands.specs.declared.judgement.Numbers.{Numbers}
 use Rattle.commands.specs.declared.judgement.Numbers.TheVariants as numbers
 use Rattle.commands.specs.declared.judgement.Judgement.{Judgement}

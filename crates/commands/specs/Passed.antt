@@ -1,11 +1,11 @@
 -- A verdict that is true of an instance passes each test of a check.
 use Rattle.std.specs.Prelude.{ℕ, List, slice_get, IsSomeAnd}
 use Rattle.row_model.specs.Rows.{RowList}
-use Rattle.tied_law.specs.Tied.{IsTied}
+use Rattle.tree_theory.specs.Tied.{IsTied}
 use Rattle.verdict_text.specs.Verdict.{SideValue, YesValue}
 use Rattle.instance_model.specs.Instance.{InstanceValue, IsInstance, IsWellFormed}
-use Rattle.verdict_check.specs.Accepted.{IsAccepted}
-use Rattle.verdict_check.specs.Truth.{IsTrueAdded}
+use Rattle.verdict_judge.specs.Accepted.{IsAccepted}
+use Rattle.verdict_judge.specs.Truth.{IsTrueAdded}
 use Rattle.commands.specs.Judgements.{HasVerdict}
 use Rattle.verdict_replies.specs.Verdicts.{ShowsAllOrders, ShowsSides, AddsToOrder, IsVerdictReply}
 

@@ -1,6 +1,6 @@
 // The check of the text of a core.
 ghost use Rattle.std.specs.Prelude.{◌≡◌, ◌⊎◌, List, ℕ, IfOk};
-ghost use Rattle.pq_io.specs.Whole.{IsWhole};
+ghost use Rattle.file_io.specs.Whole.{IsWhole};
 ghost use Rattle.row_model.specs.Rows.{RowList};
 ghost use Rattle.instance_model.specs.Instance.{plain, instance_kind, IsInstance};
 ghost use Rattle.instance_model.specs.Value.{instance_value};
@@ -11,11 +11,11 @@ use crate::core_judgement::CoreJudgement;
 use crate::line_reply::line_reply;
 use crate::{MAX_CORE_BYTES, NoMemory, Reply};
 use core_text::parse_core;
+use file_io::Whole;
 use instance_model::Instance;
-use pq_io::Whole;
 use row_model::{Kind, Matrix};
 use std::alloc::Global;
-use verdict_check::{CoreChecked, check_core};
+use verdict_judge::{CoreChecked, check_core};
 
 /// The reply to the check of a core: one line with what is found, and its status.
 ///

@@ -1,6 +1,6 @@
 // The check of a unit model.
 ghost use Rattle.std.specs.Prelude.{◌≡◌, ◌⊎◌, List, ℕ, IfOk};
-ghost use Rattle.pq_io.specs.Whole.{IsWhole};
+ghost use Rattle.file_io.specs.Whole.{IsWhole};
 ghost use Rattle.graph_model.specs.Graphs.{GraphValue};
 ghost use Rattle.instance_model.specs.Instance.{proper, instance_kind, IsInstance};
 ghost use Rattle.instance_model.specs.Value.{instance_value};
@@ -9,13 +9,13 @@ ghost use Rattle.commands.specs.Findings.{IsFinding, IsFindingReply};
 use crate::finding::Finding;
 use crate::line_reply::line_reply;
 use crate::{MAX_VERDICT_BYTES, NoMemory, Reply, graph_law};
+use file_io::Whole;
 use graph_model::Graph;
 use instance_model::Instance;
-use pq_io::Whole;
 use row_model::Kind;
 use std::alloc::Global;
 use unit_model::parse_unit;
-use verdict_check::{UnitChecked, check_unit};
+use verdict_judge::{UnitChecked, check_unit};
 
 /// The reply to the check of a unit model: one line with what is found, and its status.
 ///

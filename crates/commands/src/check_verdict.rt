@@ -1,6 +1,6 @@
 // The check of a verdict.
 ghost use Rattle.std.specs.Prelude.{◌≡◌, ◌⊎◌, List, ℕ, IfOk};
-ghost use Rattle.pq_io.specs.Whole.{IsWhole};
+ghost use Rattle.file_io.specs.Whole.{IsWhole};
 ghost use Rattle.instance_model.specs.Instance.{IsInstance};
 ghost use Rattle.instance_model.specs.Value.{instance_value};
 ghost use Rattle.commands.specs.Judgements.{IsJudgement, IsJudgementReply};
@@ -8,9 +8,9 @@ ghost use Rattle.commands.specs.Judgements.{IsJudgement, IsJudgementReply};
 use crate::judgement::Judgement;
 use crate::line_reply::line_reply;
 use crate::{MAX_VERDICT_BYTES, NoMemory, Reply};
-use pq_io::Whole;
+use file_io::Whole;
 use std::alloc::Global;
-use verdict_check::{Checked, Instance};
+use verdict_judge::{Checked, Instance};
 use verdict_text::parse;
 
 /// The reply to the check of a verdict: one line with what is found, and its status.
@@ -47,7 +47,7 @@ fn judge(alloc: Global, instance: &Instance, verdict: &Whole) -> Result<Judgemen
     let Some(verdict) = parse(alloc, bytes)? else {
         return Ok(Judgement::NoVerdict);
     };
-    match verdict_check::check(alloc, instance, &verdict)? {
+    match verdict_judge::check(alloc, instance, &verdict)? {
         Checked::Valid => Ok(Judgement::Valid),
         Checked::Invalid(reason) => Ok(Judgement::Fails(reason)),
     }

@@ -4,7 +4,7 @@ ghost use Rattle.commands.specs.Faults.{fault_status, fault_text};
 ghost use Rattle.commands.specs.CoreJudgements.{core_judgement_fault};
 
 use std::fmt;
-use verdict_check::CoreReason;
+use verdict_judge::CoreReason;
 
 /// What is found of the bytes of the text of a core.
 #[derive(Clone, Copy)]

@@ -4,7 +4,7 @@ ghost use Rattle.commands.specs.Faults.{fault_status, fault_text};
 ghost use Rattle.commands.specs.Judgements.{judgement_fault};
 
 use std::fmt;
-use verdict_check::Reason;
+use verdict_judge::Reason;
 
 /// What is found of the bytes of a verdict.
 #[derive(Clone, Copy)]

@@ -4,7 +4,7 @@
 //!
 //! `check` on a verdict, `check-core` on a core of a matrix and `check-unit` on a unit model of a graph reply one line,
 //! `valid`, or `invalid` with the first that keeps the bytes of the second file from it. They take the judges of
-//! `verdict_check`. A verdict that `solve` tells passes each test ([`passed_law`]).
+//! `verdict_judge`. A verdict that `solve` tells passes each test ([`passed_law`]).
 //!
 //! The orders that two trees of `meet` stand for are found by any solver that keeps to the trait `Judge` of
 //! `row_judge`.

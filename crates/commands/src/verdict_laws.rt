@@ -1,9 +1,9 @@
 // What a check finds of the verdict that `solve` tells.
 ghost use Rattle.commands.specs.Passed.{AddedLaw, PassedLaw, TiedSideLaw};
 
-use exact_tree::exact_law;
 use instance_model::textbook_law;
-use verdict_check::solved_laws;
+use tree_theory::exact_law;
+use verdict_judge::solved_laws;
 use verdict_replies::{grammar_law, shown_law};
 
 /// A verdict of an instance passes each test of a check: its trees are tied to the derived rows, and what it adds to the

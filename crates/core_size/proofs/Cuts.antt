@@ -3,11 +3,11 @@ use Rattle.std.proofs.Common.{◌⊎◌, ℕ, ◌+◌, ◌≤◌, List, [], ◌�
 use Rattle.pq_tree.specs.Outline.{Outline, Forest, leaf, p_node, q_node, no_tree, tree_and}
 use Rattle.pq_tree.specs.Proper.{HasArities, HaveArities}
 use Rattle.pq_tree.specs.Forests.{count, back}
-use Rattle.template_theory.specs.Templates.{Partial, Label, empty_label, full_label, partial_label, star, q2, IsSorted, none_sorted, to_empty, to_full, to_partial, IsRun}
-use Rattle.template_theory.specs.Chosen.{IsLabelOfP, p_empty, by_p1, by_p3, by_p5, IsLabelOfQ, q_empty, by_q1, by_q2}
-use Rattle.template_theory.specs.Reduced.{IsTurned, IsLabel, AreLabels}
-use Rattle.template_theory.proofs.Sorts.{AreEach, each_back, listed, sorted_count, run_sorted}
-use Rattle.template_theory.proofs.Measures.{measure_parts, measure-join, measure-back, turned_measure, star_measure, q2_measure}
+use Rattle.tree_theory.specs.Templates.{Partial, Label, empty_label, full_label, partial_label, star, q2, IsSorted, none_sorted, to_empty, to_full, to_partial, IsRun}
+use Rattle.tree_theory.specs.Chosen.{IsLabelOfP, p_empty, by_p1, by_p3, by_p5, IsLabelOfQ, q_empty, by_q1, by_q2}
+use Rattle.tree_theory.specs.Reduced.{IsTurned, IsLabel, AreLabels}
+use Rattle.tree_theory.proofs.Sorts.{AreEach, each_back, listed, sorted_count, run_sorted}
+use Rattle.tree_theory.proofs.Measures.{measure_parts, measure-join, measure-back, turned_measure, star_measure, q2_measure}
 use Rattle.core_size.specs.Slack.{slack, slack_of}
 use Rattle.core_size.proofs.Slacks.{slacks}
 

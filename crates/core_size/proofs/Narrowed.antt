@@ -5,9 +5,9 @@ use Rattle.pq_tree.specs.Proper.{HasArities, IsTree}
 use Rattle.pq_tree.specs.Equivalent.{IsEquivalent}
 use Rattle.pq_tree.proofs.Forests.{arities_join_right, count_join}
 use Rattle.pq_tree.proofs.Turnings.{equivalent_trans, p_child_turned, q_child_turned}
-use Rattle.template_theory.specs.Reduced.{IsReplaced, replaced_here, replaced_under_p, replaced_under_q, IsReduced, no_column, by_template}
-use Rattle.template_theory.specs.Laws.{FullChildrenOfP2Law, FullChildrenOfP4Law}
-use Rattle.template_theory.proofs.Measures.{measure-join, equivalent_measure}
+use Rattle.tree_theory.specs.Reduced.{IsReplaced, replaced_here, replaced_under_p, replaced_under_q, IsReduced, no_column, by_template}
+use Rattle.tree_theory.specs.Laws.{FullChildrenOfP2Law, FullChildrenOfP4Law}
+use Rattle.tree_theory.proofs.Measures.{measure-join, equivalent_measure}
 use Rattle.core_size.specs.Slack.{slack}
 use Rattle.core_size.proofs.Slacks.{slacks}
 use Rattle.core_size.proofs.Roots.{Narrows, root_narrows}

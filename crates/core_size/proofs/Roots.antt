@@ -7,12 +7,12 @@ use Rattle.pq_tree.specs.Nodes.{IsPertinentRoot}
 use Rattle.pq_tree.specs.Equivalent.{IsEquivalent}
 use Rattle.pq_tree.proofs.Forests.{back-back, forest-trees, forest_reverse, count_join}
 use Rattle.pq_tree.proofs.Turnings.{equivalent_refl, are_equivalent_refl}
-use Rattle.template_theory.specs.Templates.{Partial, Label, star, line, q2, q3, IsShape, IsRun, run_full, run_partial, run_more, IsTail, tail_empty, tail_partial, tail_more, IsTwoSidedRun, span_tail, span_partial, span_more}
-use Rattle.template_theory.specs.Chosen.{IsRootOfP, root_p1, root_p2, root_p4, root_p6, IsRootOfQ, root_q1, root_q2, root_q3}
-use Rattle.template_theory.specs.Reduced.{AreLabels, IsRootMade}
-use Rattle.template_theory.specs.Laws.{FullChildrenOfP2Law, FullChildrenOfP4Law}
-use Rattle.template_theory.proofs.Sorts.{listed, sorted_count, span_sorted}
-use Rattle.template_theory.proofs.Measures.{measure-join, star_measure, shape_measure, p4_measure, p6_measure, q3_measure}
+use Rattle.tree_theory.specs.Templates.{Partial, Label, star, line, q2, q3, IsShape, IsRun, run_full, run_partial, run_more, IsTail, tail_empty, tail_partial, tail_more, IsTwoSidedRun, span_tail, span_partial, span_more}
+use Rattle.tree_theory.specs.Chosen.{IsRootOfP, root_p1, root_p2, root_p4, root_p6, IsRootOfQ, root_q1, root_q2, root_q3}
+use Rattle.tree_theory.specs.Reduced.{AreLabels, IsRootMade}
+use Rattle.tree_theory.specs.Laws.{FullChildrenOfP2Law, FullChildrenOfP4Law}
+use Rattle.tree_theory.proofs.Sorts.{listed, sorted_count, span_sorted}
+use Rattle.tree_theory.proofs.Measures.{measure-join, star_measure, shape_measure, p4_measure, p6_measure, q3_measure}
 use Rattle.core_size.specs.Slack.{slack}
 use Rattle.core_size.proofs.Slacks.{slacks}
 use Rattle.core_size.proofs.Cuts.{AreCut, sorted_cut, run_cut, labels_cut}

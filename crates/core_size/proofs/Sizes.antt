@@ -13,10 +13,10 @@ use Rattle.row_model.proofs.Ascending.{row_within}
 use Rattle.pq_tree.specs.Outline.{Outline, leaf, p_node, q_node}
 use Rattle.pq_tree.specs.Proper.{IsProper, universal}
 use Rattle.pq_tree.proofs.Equivalent.{tree_from_proper}
-use Rattle.tied_law.specs.Tied.{IsTied}
-use Rattle.tied_law.specs.Laws.{TiedLaw, UniversalLaw, SameFrontiersLaw}
-use Rattle.template_theory.specs.Laws.{KeptLaw, ExistsLaw}
-use Rattle.template_theory.proofs.Measures.{universal_measure}
+use Rattle.tree_theory.specs.Tied.{IsTied}
+use Rattle.tree_theory.specs.TiedLaws.{TiedLaw, UniversalLaw, SameFrontiersLaw}
+use Rattle.tree_theory.specs.Laws.{KeptLaw, ExistsLaw}
+use Rattle.tree_theory.proofs.Measures.{universal_measure}
 use Rattle.core_text.specs.Cores.{rows_at, but, IsCore}
 use Rattle.core_text.proofs.LeftOut.{but_at}
 use Rattle.row_core.proofs.Numbers.{within_at}

@@ -1,6 +1,6 @@
 -- The slack is a measure.
 use Rattle.std.proofs.Common.{◌-◌, ◌*◌, refl}
-use Rattle.template_theory.proofs.Measures.{IsMeasure}
+use Rattle.tree_theory.proofs.Measures.{IsMeasure}
 use Rattle.core_size.specs.Slack.{slack, slack_of}
 
 pub slacks : IsMeasure slack slack_of (λ n. 2 * n - 3)

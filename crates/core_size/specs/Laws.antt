@@ -4,7 +4,7 @@ use Rattle.pq_tree.specs.Outline.{Outline}
 use Rattle.pq_tree.specs.Proper.{IsTree}
 use Rattle.pq_tree.specs.Equivalent.{IsEquivalent}
 use Rattle.row_model.specs.Rows.{RowList, IsRow}
-use Rattle.template_theory.specs.Reduced.{IsReduced}
+use Rattle.tree_theory.specs.Reduced.{IsReduced}
 use Rattle.core_text.specs.Cores.{IsCore}
 use Rattle.core_size.specs.Slack.{slack}
 

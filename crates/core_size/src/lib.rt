@@ -8,8 +8,7 @@
 
 ghost use Rattle.core_size.specs.Laws.{NarrowsLaw, CoreSizeLaw};
 
-use template_theory::{reduce_law, template_law};
-use tied_law::{equivalent_law, universal_law};
+use tree_theory::{equivalent_law, reduce_law, template_law, universal_law};
 
 /// A row that is taken lets the slack of the tree fall, or turns nodes of it and no more.
 pub fn narrows_law()
@@ -25,6 +24,6 @@ pub fn core_size_law()
     narrows_law();
     reduce_law();
     universal_law();
-    tied_law::tied_law();
+    tree_theory::tied_law();
     equivalent_law();
 }

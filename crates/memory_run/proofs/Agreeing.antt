@@ -6,8 +6,8 @@ use Rattle.row_model.specs.declared.kind.Kind.{Kind}
 use Rattle.row_model.specs.declared.refusal.Refusal.{Refusal}
 use Rattle.command_input.specs.Words.{Command, Solve, Check, files_of}
 use Rattle.command_input.specs.Instances.{instance_of}
-use Rattle.reply_laws.specs.Replies.{Replies, refused_at}
-use Rattle.reply_laws.specs.Check.{AgreedLaw}
+use Rattle.pq_cli.specs.Replies.{Replies, refused_at}
+use Rattle.pq_cli.specs.Check.{AgreedLaw}
 use Rattle.memory_run.specs.Called.{IsFirstRefused, IsFirstAnother, IsWholeRun, IsHandedOver, IsRunOf}
 use Rattle.memory_run.specs.Agreed.{AgreedInMemoryLaw}
 

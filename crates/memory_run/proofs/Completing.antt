@@ -10,7 +10,7 @@ use Rattle.row_model.specs.declared.refusal.Read.TheVariants as read
 use Rattle.command_input.specs.Words.{Command, Solve, Check, Extend, Gen, Meet, ListOrders, UnitModel, CheckUnit, Core, CheckCore, files_of}
 use Rattle.command_input.specs.Instances.{instance_of}
 use Rattle.command_input.specs.TreeFiles.{tree_file}
-use Rattle.reply_laws.specs.Replies.{Replies, refusable, refusal_of, refused_at, refused_of_two}
+use Rattle.pq_cli.specs.Replies.{Replies, refusable, refusal_of, refused_at, refused_of_two}
 use Rattle.pq_cli.specs.Told.{AllTold}
 use Rattle.memory_run.specs.Given.{given, IsGiven}
 use Rattle.memory_run.specs.Called.{IsFirstAnother, IsWholeRun, IsHandedOver}

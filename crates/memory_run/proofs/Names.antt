@@ -5,9 +5,9 @@ use Rattle.std.proofs.lemmas.Slice.Eq.{bytes_eq-Decides}
 use Rattle.std.specs.List.{Contains}
 use Rattle.std.specs.Str.{bytes_eq}
 use Rattle.std.specs.Prelude.{Result, Ok, Err, OnOk, is_err}
-use Rattle.pq_io.specs.Faults.{is_to_fail}
+use Rattle.file_io.specs.Faults.{is_to_fail}
 use Rattle.pq_io.specs.NamedFiles.{Held, content_of}
-use Rattle.pq_io.specs.Taken.{Taken, read_on, handed_out, HandsOut}
+use Rattle.file_io.specs.Taken.{Taken, read_on, handed_out, HandsOut}
 use Rattle.memory_run.specs.Given.{given, IsGiven, are_told, FailsOnlyAtAnother}
 
 -- a name that has bytes among the two is that of one of them

@@ -7,12 +7,12 @@ use Rattle.std.proofs.lemmas.Bool.{and_parts, cases_Bool, cases_eq, false≢true
 use Rattle.std.proofs.lemmas.List.{take-append-drop}
 use Rattle.std.specs.List.{All}
 use Rattle.std.specs.Prelude.{◌↔◌, IsNone, IfNone}
-use Rattle.pq_io.specs.Taken.{Taken}
+use Rattle.file_io.specs.Taken.{Taken}
 use Rattle.pq_io.specs.NamedFiles.{Held, content_of}
 use Rattle.pq_cli.specs.Reading.{OnlyReads}
 use Rattle.command_input.specs.Words.{Command, Solve, Check, Extend, Gen, Meet, ListOrders, UnitModel, CheckUnit, Core, CheckCore, files_of}
-use Rattle.reply_laws.specs.Replies.{Replies, refusal_of}
-use Rattle.reply_laws.specs.Promise.{IsPromised, PromiseLaw}
+use Rattle.pq_cli.specs.Replies.{Replies, refusal_of}
+use Rattle.pq_cli.specs.Promised.{IsPromised, PromiseLaw}
 use Rattle.pq_cli.specs.Runs.{AllFit, AgreesWith, OfTaken, taken_since, TakesFiles, TakesInTurn, WritesOut, EndsAtRefusal, IsLineOf, Offers}
 use Rattle.pq_cli.specs.Real.{names_taken}
 use Rattle.pq_cli.specs.Told.{AllTold}

@@ -3,8 +3,8 @@ use Rattle.std.specs.Prelude.{◌≡◌, ◌≢◌, ◌⊎◌, ◌<◌, ◌≤�
 use Rattle.std.specs.List.{All}
 use Rattle.row_model.specs.declared.refusal.Refusal.{Refusal}
 use Rattle.command_input.specs.Words.{Command, files_of}
-use Rattle.reply_laws.specs.Replies.{Replies, refusable, refusal_of}
-use Rattle.reply_laws.specs.Promise.{IsPromised}
+use Rattle.pq_cli.specs.Replies.{Replies, refusable, refusal_of}
+use Rattle.pq_cli.specs.Promised.{IsPromised}
 use Rattle.pq_cli.specs.Runs.{refused_line}
 use Rattle.memory_run.specs.Given.{IsGiven, NamesNext, OfFirst, OfFiles}
 

@@ -2,7 +2,7 @@
 use Rattle.std.specs.Prelude.{◌≡◌, ◌≢◌, ◌⊎◌, ℕ, List, Some, None}
 use Rattle.std.specs.List.{All}
 use Rattle.command_input.specs.Words.{Command, files_of}
-use Rattle.reply_laws.specs.Replies.{refusal_of}
+use Rattle.pq_cli.specs.Replies.{refusal_of}
 use Rattle.memory_run.specs.Given.{IsGiven, OfFiles}
 use Rattle.memory_run.specs.Called.{IsRunOf}
 

@@ -4,7 +4,7 @@ use Rattle.std.specs.List.{list_all}
 use Rattle.std.specs.Str.{bytes_eq}
 use Rattle.command_input.specs.Words.{Command, files_of}
 use Rattle.pq_io.specs.NamedFiles.{Held, content_of}
-use Rattle.pq_io.specs.Taken.{Taken}
+use Rattle.file_io.specs.Taken.{Taken}
 use Rattle.pq_cli.specs.Told.{AllTold}
 
 -- the bytes of the two files, whose names are `1` and `2`

@@ -2,7 +2,7 @@
 ghost use Rattle.memory_run.specs.Agreed.{AgreedInMemoryLaw};
 ghost use Rattle.memory_run.specs.Complete.{CompleteInMemoryLaw};
 
-use reply_laws::solved_law;
+use pq_cli::solved_law;
 
 /// A check believes the library: what `solve` gave for a file is found valid beside the same file, unless there is too
 /// little room for the answer or memory is refused.

@@ -9,9 +9,8 @@ use crate::files::HandedOver;
 use crate::handing::{Left, handed_over};
 use crate::kept::Kept;
 use crate::words::words_of;
-use pq_cli::{run, told_law};
+use pq_cli::{promise_law, run, told_law};
 use pq_io::NoMemory;
-use reply_laws::promise_law;
 use std::alloc::Global;
 
 /// Does what the words ask for, one word a line. What is written stands at the front of `out` and of `err`.

@@ -12,8 +12,8 @@ use Rattle.row_model.specs.Graph.{pair, IsPair, JoinedBy}
 use Rattle.row_model.specs.Cycles.{first_pair, LeadTo, IsClosedWalk, IsOdd, IsOddWalk}
 use Rattle.row_model.proofs.CycleLaws.{first_pushed, first_drop, first_take, lead_push, lead_take, lead_line, closed_from, closed_leads}
 use Rattle.row_model.proofs.Pairs.{cases_pair}
-use Rattle.pair_classes.specs.Numbers.{Numbering, number_of, Renumbers, IsIndexed}
-use Rattle.pair_classes.proofs.NumberLaws.{indexed_distinct}
+use Rattle.odd_cycle.specs.Numbers.{Numbering, number_of, Renumbers, IsIndexed}
+use Rattle.odd_cycle.proofs.NumberLaws.{indexed_distinct}
 use Rattle.odd_cycle.specs.Fold.{closing, differ}
 use Rattle.odd_cycle.specs.Short.{flips, one_if, turned_if, columns_of, IsStraight, IsFolded, IsNamedBy}
 use Rattle.odd_cycle.proofs.PairLaws.{turned_pair, turned_if_pair, turned_twice, flipped, joined_turned_if}

@@ -9,8 +9,8 @@ use Rattle.row_model.specs.declared.graph.Why.TheVariants.{Row}
 use Rattle.row_model.specs.Graph.{pair, IsPair}
 use Rattle.row_model.specs.Cycles.{LeadTo, IsClosedWalk, IsOdd, IsOddWalk}
 use Rattle.row_model.proofs.CycleLaws.{first_drop, lead_line, lead_drop, closed_leads}
-use Rattle.pair_classes.specs.Numbers.{Numbering, number_of, IsIndexed}
-use Rattle.pair_classes.proofs.Items.{item_at}
+use Rattle.odd_cycle.specs.Numbers.{Numbering, number_of, IsIndexed}
+use Rattle.odd_cycle.proofs.Items.{item_at}
 use Rattle.odd_cycle.specs.Fold.{closing, differ, IsPlaceOf, TellsTurned}
 use Rattle.odd_cycle.specs.Short.{flip_of, one_if, turned_if, lesser_first, columns_of, IsFolded, IsNamedBy}
 use Rattle.odd_cycle.proofs.PairLaws.{turned_if_pair, lesser_pair, columns_turned_if}

@@ -1,3 +1,7 @@
+pub mod Items
+pub mod RowOnes
+pub mod NumberLaws
+pub mod MarkLaws
 mod CycleLength
 mod FoldLaws
 mod FoldSteps

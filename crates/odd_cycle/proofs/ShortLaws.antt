@@ -11,7 +11,7 @@ use Rattle.row_model.specs.Graph.{pair, turned, IsPair, JoinedBy}
 use Rattle.row_model.specs.Cycles.{first_pair, IsOddWalk, IsOddCycle}
 use Rattle.row_model.proofs.CycleLaws.{lead_line, closed_leads, odd_long, cycle_from}
 use Rattle.row_model.proofs.Pairs.{same_pair}
-use Rattle.pair_classes.proofs.Items.{item_last}
+use Rattle.odd_cycle.proofs.Items.{item_last}
 use Rattle.odd_cycle.specs.Laws.{ShortCycleLaw}
 use Rattle.odd_cycle.specs.Short.{flip_of, flips, IsShort, lesser_first, columns_of, IsStraight}
 use Rattle.odd_cycle.proofs.PairLaws.{columns_turned, never_turned}

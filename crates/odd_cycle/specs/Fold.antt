@@ -3,7 +3,7 @@ use Rattle.std.specs.Prelude.{◌≡◌, ◌⊎◌, ℕ, ◌+◌, Bool, true, fa
 use Rattle.row_model.specs.declared.graph.Pair.{Pair}
 use Rattle.row_model.specs.declared.graph.Line.{Line}
 use Rattle.row_model.specs.declared.graph.Why.TheVariants.{Flip}
-use Rattle.pair_classes.specs.Numbers.{Numbering, number_of}
+use Rattle.odd_cycle.specs.Numbers.{Numbering, number_of}
 use Rattle.odd_cycle.specs.Short.{turned_if, lesser_first, columns_of}
 
 -- one is true and the other is not

@@ -3,13 +3,13 @@ ghost use Rattle.std.specs.Prelude.{◌≡◌, ◌↔◌, ℕ, ◌+◌, ◌%◌,
 ghost use Rattle.row_model.specs.declared.graph.Pair.{Pair};
 ghost use Rattle.row_model.specs.Graph.{IsPair};
 ghost use Rattle.row_model.specs.Cycles.{IsOdd, IsSimpleOdd, IsOddCycle, IsOddWalk};
-ghost use Rattle.pair_classes.specs.Numbers.{IsIndexed, number_of};
+ghost use Rattle.odd_cycle.specs.Numbers.{IsIndexed, number_of};
 ghost use Rattle.odd_cycle.specs.Fold.{closing, differ, IsPlaceOf, TellsTurned};
 ghost use Rattle.odd_cycle.specs.Short.{columns_of, lesser_first, one_if, IsNamedBy, IsShort};
 
 use crate::cycle::Cycle;
+use crate::numbers::PairNumbers;
 use crate::pairs::{lesser_first, turned_if};
-use pair_classes::PairNumbers;
 use row_model::{COLUMN_BOUND, Line, NoMemory, Pair, Why};
 use std::alloc::Global;
 

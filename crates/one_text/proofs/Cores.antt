@@ -1,7 +1,7 @@
 -- The order of a core without a row.
 use Rattle.std.proofs.Common.{◌≡◌, ◌∙◌, sym, ap}
 use Rattle.pq_tree.specs.Outline.{leaves}
-use Rattle.canonical_tree.specs.Laws.{CanonicalTreeLaw}
+use Rattle.tree_theory.specs.CanonicalLaws.{CanonicalTreeLaw}
 use Rattle.one_text.specs.Laws.{OneOrderLaw}
 
 pub one_order : CanonicalTreeLaw → OneOrderLaw

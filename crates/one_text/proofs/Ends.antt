@@ -8,7 +8,7 @@ use Rattle.matrix_read.specs.Sparse.{further}
 use Rattle.instance_model.specs.Instance.{plain, derived_matrix}
 use Rattle.command_input.specs.Words.{Extend}
 use Rattle.command_input.specs.Instances.{instance_of}
-use Rattle.reply_laws.specs.Replies.{Replies}
+use Rattle.pq_cli.specs.Replies.{Replies}
 use Rattle.verdict_replies.specs.Verdicts.{ShowsAllOrders}
 use Rattle.solve_replies.specs.Sessions.{Outcome, accepted, refused, AreOutcomes, matrix_after, refusals_after, matrix_at_end, IsSessionText, IsExtensionReply}
 use Rattle.one_text.specs.Told.{at_end, GrowsTo, ExtendsTo, TellsAt}

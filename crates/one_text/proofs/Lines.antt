@@ -6,8 +6,8 @@ use Rattle.row_model.specs.declared.kind.Kind.{Kind}
 use Rattle.text_parts.specs.Numbered.{numbered}
 use Rattle.verdict_text.specs.Text.{kind_line, columns_line, side_text, added_text, claim_text, head_text, verdict_text}
 use Rattle.verdict_text.specs.Verdict.{SideValue, Claim, yes_claim, no_claim, VerdictValue}
-use Rattle.verdict_check.specs.YesTests.{HasSide}
-use Rattle.reply_laws.specs.Solve.{IsYesAnd}
+use Rattle.verdict_judge.specs.YesTests.{HasSide}
+use Rattle.pq_cli.specs.Solve.{IsYesAnd}
 use Rattle.solve_replies.specs.Sessions.{Outcome, outcome_text, session_text}
 use Rattle.commands.specs.Meetings.{meet_head}
 use Rattle.one_text.specs.Told.{on_side, at_end, in_meeting}

@@ -7,7 +7,7 @@ use Rattle.tree_meet.specs.Meets.{IsCommon, joint_rows}
 use Rattle.tree_meet.specs.Laws.{CommonRowsLaw}
 use Rattle.verdict_text.specs.Verdict.{SideValue}
 use Rattle.commands.specs.Meetings.{ShowsCommon, TellsCommon}
-use Rattle.reply_laws.specs.Meet.{MeetTextLaw}
+use Rattle.pq_cli.specs.Meet.{MeetTextLaw}
 use Rattle.one_text.specs.Told.{in_meeting, MeetsIn, TellsAt}
 use Rattle.verdict_replies.specs.Verdicts.{ShowsAllOrders}
 use Rattle.one_text.proofs.Sides.{Shown}

@@ -9,9 +9,9 @@ use Rattle.unit_model.specs.Laws.{OneUnitLaw}
 use Rattle.unit_model.specs.Text.{UnitValue}
 use Rattle.instance_model.specs.Instance.{InstanceValue}
 use Rattle.verdict_text.specs.Verdict.{VerdictValue}
-use Rattle.verdict_check.specs.Accepted.{Passes, IsFirstFailing, IsAccepted, FailsFirst}
-use Rattle.verdict_check.specs.Tests.{tests}
-use Rattle.verdict_check.specs.Core.{PassesCore, core_tests, IsAcceptedCore, FailsCoreFirst}
+use Rattle.verdict_judge.specs.Accepted.{Passes, IsFirstFailing, IsAccepted, FailsFirst}
+use Rattle.verdict_judge.specs.Tests.{tests}
+use Rattle.verdict_judge.specs.Core.{PassesCore, core_tests, IsAcceptedCore, FailsCoreFirst}
 use Rattle.verdict_replies.specs.Units.{IsUnitOf}
 use Rattle.commands.specs.Faults.{fault_status, fault_text}
 use Rattle.commands.specs.Judgements.{HasVerdict, IsJudgement, judgement_fault, IsJudgementReply}

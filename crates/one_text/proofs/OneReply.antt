@@ -11,7 +11,7 @@ use Rattle.row_model.specs.declared.refusal.Read.TheVariants as read
 use Rattle.graph_model.specs.Graphs.{GraphValue}
 use Rattle.clone_map.specs.Laws.{PlacesLaw, ContigsLaw}
 use Rattle.proper_interval.specs.Laws.{OneListLaw}
-use Rattle.canonical_tree.specs.Laws.{CanonicalTreeLaw}
+use Rattle.tree_theory.specs.CanonicalLaws.{CanonicalTreeLaw}
 use Rattle.pq_tree.specs.Outline.{Outline, leaves}
 use Rattle.order_list.specs.First.{HasOther}
 use Rattle.order_list.specs.Laws.{FirstOrdersLaw}
@@ -40,7 +40,7 @@ use Rattle.solve_replies.specs.Lists.{list_text, IsListText, IsListReply}
 use Rattle.solve_replies.specs.Models.{TellsModel, TellsByClaim, IsModelReply}
 use Rattle.solve_replies.specs.Summaries.{summary_text, IsSummary}
 use Rattle.solve_replies.specs.Generated.{generated}
-use Rattle.reply_laws.specs.Replies.{Replies}
+use Rattle.pq_cli.specs.Replies.{Replies}
 use Rattle.one_text.specs.Laws.{HasLines}
 use Rattle.one_text.specs.One.{TellsCycle, AreOneReply, OneReplyLaw}
 use Rattle.one_text.proofs.Lines.{behind, before, itself}

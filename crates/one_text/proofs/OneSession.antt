@@ -3,7 +3,7 @@ use Rattle.std.proofs.Common.{◌≡◌, ◌∙◌, ◌⊎◌, inl, inr, ℕ, �
 use Rattle.std.specs.Fmt.{decimal}
 use Rattle.row_model.specs.Rows.{RowList}
 use Rattle.row_model.specs.declared.kind.Kind.{Kind}
-use Rattle.canonical_tree.specs.Laws.{CanonicalTreeLaw}
+use Rattle.tree_theory.specs.CanonicalLaws.{CanonicalTreeLaw}
 use Rattle.text_parts.specs.Text.{counted_cycle}
 use Rattle.text_parts.specs.Numbered.{numbered}
 use Rattle.verdict_text.specs.Text.{kind_line, columns_line, side_text}

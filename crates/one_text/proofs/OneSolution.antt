@@ -11,7 +11,7 @@ use Rattle.row_model.specs.declared.kind.Kind.TheVariants.{Clones}
 use Rattle.column_order.specs.Orders.{IsValidOrder}
 use Rattle.clone_map.specs.Laws.{PlacesLaw, ContigsLaw}
 use Rattle.proper_interval.specs.Laws.{OneListLaw}
-use Rattle.canonical_tree.specs.Laws.{CanonicalTreeLaw}
+use Rattle.tree_theory.specs.CanonicalLaws.{CanonicalTreeLaw}
 use Rattle.text_parts.specs.Text.{counted_cycle}
 use Rattle.verdict_text.specs.Text.{head_text, claim_text, cycle_text, verdict_text}
 use Rattle.verdict_text.specs.Verdict.{SideValue, AddedValue, YesValue, Claim, yes_claim, no_claim, VerdictValue}

@@ -4,11 +4,11 @@ use Rattle.column_order.specs.Orders.{IsValidOrder}
 use Rattle.column_order.proofs.Counts.{order_unique}
 use Rattle.row_model.specs.Rows.{RowList}
 use Rattle.pq_tree.specs.Outline.{Outline}
-use Rattle.canonical_tree.specs.Laws.{HasOrdersOf, IsCanonicalOver, CanonicalTreeLaw, SameOrdersLaw}
+use Rattle.tree_theory.specs.CanonicalLaws.{HasOrdersOf, IsCanonicalOver, CanonicalTreeLaw, SameOrdersLaw}
 use Rattle.verdict_text.specs.Verdict.{SideValue}
 use Rattle.tree_meet.specs.Laws.{CommonRowsLaw}
-use Rattle.reply_laws.specs.Meet.{MeetTextLaw}
-use Rattle.reply_laws.specs.Solve.{InGrammarLaw}
+use Rattle.pq_cli.specs.Meet.{MeetTextLaw}
+use Rattle.pq_cli.specs.Solve.{InGrammarLaw}
 use Rattle.one_text.specs.Told.{Spot, on_side, at_end, in_meeting, RepliesFor, TellsAt}
 use Rattle.one_text.specs.Laws.{side_of, HaveSameOrders, CanonicalTextLaw, SameTextLaw}
 use Rattle.verdict_replies.specs.Verdicts.{ShowsAllOrders, ShownOrderLaw}

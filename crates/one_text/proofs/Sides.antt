@@ -7,12 +7,12 @@ use Rattle.row_model.specs.declared.refusal.Read.{Read}
 use Rattle.row_model.specs.declared.refusal.Read.TheVariants as read
 use Rattle.instance_model.specs.Instance.{InstanceValue, IsSideOf, derived_matrix}
 use Rattle.verdict_text.specs.Verdict.{SideValue, Claim, yes_claim, no_claim}
-use Rattle.verdict_check.specs.YesTests.{HasSide}
+use Rattle.verdict_judge.specs.YesTests.{HasSide}
 use Rattle.command_input.specs.Words.{Solve}
 use Rattle.command_input.specs.Instances.{instance_of}
-use Rattle.reply_laws.specs.Replies.{Replies}
+use Rattle.pq_cli.specs.Replies.{Replies}
 use Rattle.verdict_replies.specs.Verdicts.{ShowsAllOrders, IsClaimOf, status_of, IsVerdictReply}
-use Rattle.reply_laws.specs.Solve.{IsYesAnd, InGrammarLaw}
+use Rattle.pq_cli.specs.Solve.{IsYesAnd, InGrammarLaw}
 use Rattle.one_text.specs.Told.{on_side, SolvesSide, TellsAt}
 
 -- what is told at a spot shows the orders of the matrix

@@ -3,19 +3,19 @@ use Rattle.std.proofs.Common.{◌≡◌, ◌∙◌, ◌↔◌, ℕ, ◌-◌, Lis
 use Rattle.std.specs.Prelude.{slice_get, IsSomeAnd}
 use Rattle.row_model.specs.Rows.{RowList}
 use Rattle.pq_tree.specs.Outline.{IsFrontier}
-use Rattle.canonical_tree.specs.Laws.{SameOrdersLaw}
+use Rattle.tree_theory.specs.CanonicalLaws.{SameOrdersLaw}
 use Rattle.verdict_text.specs.Verdict.{SideValue, Claim, yes_claim, no_claim, VerdictValue}
 use Rattle.verdict_text.specs.Grammar.{IsVerdict}
 use Rattle.verdict_text.specs.Text.{verdict_text}
 use Rattle.instance_model.specs.Instance.{InstanceValue, IsSideOf, IsTextbookOrder, derived_matrix}
 use Rattle.instance_model.specs.Laws.{IsValidFor, AreTextbookOrders}
-use Rattle.verdict_check.specs.YesTests.{HasSide}
+use Rattle.verdict_judge.specs.YesTests.{HasSide}
 use Rattle.verdict_replies.specs.Verdicts.{ShowsSide, IsClaimOf, ShownOrderLaw}
-use Rattle.reply_laws.specs.Solve.{IsYesAnd, ShowsTextbookOrders, OrdersLaw, InGrammarLaw}
+use Rattle.pq_cli.specs.Solve.{IsYesAnd, ShowsTextbookOrders, OrdersLaw, InGrammarLaw}
 use Rattle.tree_meet.specs.Laws.{CommonRowsLaw}
-use Rattle.reply_laws.specs.Meet.{MeetTextLaw}
+use Rattle.pq_cli.specs.Meet.{MeetTextLaw}
 use Rattle.one_text.specs.Told.{on_side, SolvesSide}
-use Rattle.verdict_check.specs.Exact.{IsLinear}
+use Rattle.verdict_judge.specs.Exact.{IsLinear}
 use Rattle.one_text.specs.Laws.{HaveSameOrders, TextbookTextLaw}
 use Rattle.one_text.proofs.Sides.{solution_of}
 use Rattle.one_text.proofs.Same.{same_text}

@@ -2,13 +2,13 @@
 use Rattle.std.specs.Prelude.{◌≡◌, ◌↔◌, ◌++◌, ℕ, List}
 use Rattle.row_model.specs.Rows.{RowList}
 use Rattle.pq_tree.specs.Outline.{Outline, leaves}
-use Rattle.canonical_tree.specs.Laws.{IsCanonicalOver, HasOrdersOf}
+use Rattle.tree_theory.specs.CanonicalLaws.{IsCanonicalOver, HasOrdersOf}
 use Rattle.core_text.specs.Told.{IsOrderWithout}
 use Rattle.verdict_text.specs.Verdict.{SideValue}
 use Rattle.verdict_text.specs.Text.{side_text}
 use Rattle.instance_model.specs.Instance.{InstanceValue, IsTextbookOrder}
 use Rattle.instance_model.specs.Laws.{IsValidFor}
-use Rattle.verdict_check.specs.Exact.{IsLinear}
+use Rattle.verdict_judge.specs.Exact.{IsLinear}
 use Rattle.one_text.specs.Told.{Spot, on_side, RepliesFor, SolvesSide, TellsAt}
 
 -- the tree is a canonical tree whose frontiers are exactly the valid orders of the matrix

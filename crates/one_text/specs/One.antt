@@ -3,7 +3,7 @@ use Rattle.std.specs.Prelude.{◌≡◌, ◌⊎◌, ℕ, List}
 use Rattle.row_model.specs.declared.graph.Line.{Line}
 use Rattle.text_parts.specs.Text.{counted_cycle}
 use Rattle.command_input.specs.Words.{Command}
-use Rattle.reply_laws.specs.Replies.{Replies}
+use Rattle.pq_cli.specs.Replies.{Replies}
 use Rattle.one_text.specs.Laws.{HasLines}
 
 -- the text tells a cycle: it has its lines in it

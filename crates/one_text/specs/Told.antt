@@ -13,12 +13,12 @@ use Rattle.tree_meet.specs.Meets.{joint_rows}
 use Rattle.verdict_text.specs.Verdict.{SideValue}
 use Rattle.verdict_text.specs.Text.{side_text}
 use Rattle.commands.specs.Meetings.{meet_head}
-use Rattle.verdict_check.specs.YesTests.{HasSide}
+use Rattle.verdict_judge.specs.YesTests.{HasSide}
 use Rattle.command_input.specs.Words.{Solve, Extend, Meet}
 use Rattle.command_input.specs.Instances.{instance_of}
-use Rattle.reply_laws.specs.Replies.{Replies}
-use Rattle.reply_laws.specs.Solve.{TellsYes}
-use Rattle.reply_laws.specs.Meet.{WriteTrees}
+use Rattle.pq_cli.specs.Replies.{Replies}
+use Rattle.pq_cli.specs.Solve.{TellsYes}
+use Rattle.pq_cli.specs.Meet.{WriteTrees}
 use Rattle.solve_replies.specs.Sessions.{Outcome, session_text}
 
 -- where a reply tells a tree and an order: on a side of a yes, at the end of a session, or in what two trees share

@@ -18,9 +18,9 @@ pub fn one_text_law()
     ensures same { SameTextLaw }
     ensures textbook { TextbookTextLaw }
 {
-    canonical_tree::canonical_tree_law();
-    reply_laws::meet_law();
-    reply_laws::reply_law();
+    tree_theory::canonical_tree_law();
+    pq_cli::meet_law();
+    pq_cli::reply_law();
     tree_meet::common_law();
     verdict_replies::shown_law();
     verdict_text::one_verdict();
@@ -30,7 +30,7 @@ pub fn one_text_law()
 pub fn one_order_law()
     ensures { OneOrderLaw }
 {
-    canonical_tree::canonical_tree_law();
+    tree_theory::canonical_tree_law();
 }
 
 /// Two replies of a command to the same bytes have one status, and one text unless each of them tells an odd cycle, of
@@ -38,7 +38,7 @@ pub fn one_order_law()
 pub fn one_reply_law()
     ensures { OneReplyLaw }
 {
-    canonical_tree::canonical_tree_law();
+    tree_theory::canonical_tree_law();
     clone_map::place_laws();
     command_input::instance_law();
     core_text::one_core();

@@ -1,16 +1,14 @@
 // The gaps of an order that is valid for the first rows of a matrix.
-ghost use Rattle.std.specs.Prelude.{◌≡◌, ◌⊎◌, ℕ, ◌+◌, ◌-◌, ◌<◌, ◌≤◌, List, [], None, length, sum_by, take, slice_index, slice_index_or, IfOk, IfSome, OnOk, IsTrue, MatchOption, ◌↔◌};
-ghost use Rattle.column_order.specs.Orders.{IsOrder, IsWithin, IsValidOrder, place};
-ghost use Rattle.row_model.specs.Positions.{ArePositions, IsSpanInOrder};
+ghost use Rattle.std.specs.Prelude.{◌≡◌, ◌⊎◌, ℕ, ◌+◌, ◌-◌, ◌<◌, ◌≤◌, List, None, length, sum_by, take, slice_index, slice_index_or, IfOk, IfSome, OnOk, IsTrue, MatchOption, ◌↔◌};
+ghost use Rattle.column_order.specs.Orders.{IsOrder, IsValidOrder, place};
+ghost use Rattle.row_model.specs.Positions.{ArePositions};
 ghost use Rattle.row_model.specs.Graph.{pair, IsPair, JoinedBy};
 ghost use Rattle.open_gaps.specs.declared.gap.Gap.{Gap};
 ghost use Rattle.open_gaps.specs.Gaps.{Opens, LeadsOver, IsOpen, IsAtOpenGap, AreGaps};
 ghost use Rattle.open_gaps.specs.Tables.{covered};
 
 use crate::gap::{Gap, cover, is_open_before, is_open_behind, opener};
-use row_model::{
-    COLUMN_BOUND, CountedRows, Line, Matrix, NoMemory, Pair, Span, Why, positions, span_of,
-};
+use row_model::{COLUMN_BOUND, CountedRows, Line, NoMemory, Pair, Span, Why, positions};
 use std::alloc::Global;
 use std::marker::Model;
 use step_count::{Ledger, Steps};
@@ -70,23 +68,6 @@ impl OpenGaps {
         let _columns = m.columns();
         let positions = positions(alloc, order)?;
         let gaps = gaps_of(alloc, m, rows, &positions, steps)?;
-        Self::of_parts(alloc, order, positions, gaps)
-    }
-
-    /// The gaps of an order, as all rows leave them open. No step is counted.
-    ///
-    /// # Errors
-    ///
-    /// `NoMemory`.
-    pub fn of_rows(alloc: Global, m: &Matrix, order: &[u32]) -> Result<Self, NoMemory>
-        requires { IsValidOrder m.now.columns m.now.rows order.now }
-        ensures order { IfOk result (λ t. t.order ≡ order.now) }
-        ensures gaps { IfOk result (λ t. AreGaps m.now.rows order.now t.gaps) }
-    {
-        // A matrix has few enough columns for positions.
-        let _columns = m.columns();
-        let positions = positions(alloc, order)?;
-        let gaps = gaps_of_all(alloc, m, &positions)?;
         Self::of_parts(alloc, order, positions, gaps)
     }
 
@@ -209,29 +190,6 @@ fn line_to(b: u32, d: u32, row: u32) -> Line
         pair: Pair { a: b, b: d },
         why: Why::Row(row),
     }
-}
-
-// The first and the last position, from 1, of a row in the order of these positions, or `None` where it has no column.
-fn span_in_order(row: &[u32], positions: &[u32]) -> Option<Span>
-    requires { IsWithin (length positions.now) row.now }
-    ensures { (o : List ℕ) → IsOrder (length positions.now) o → ArePositions o positions.now
-        → MatchOption result (row.now ≡ []) (IsSpanInOrder o row.now) }
-{
-    span_of(positions, row)
-}
-
-// The gaps of the order of these positions, which is valid for all rows.
-fn gaps_of_all(alloc: Global, m: &Matrix, positions: &[u32]) -> Result<Vec<Gap>, NoMemory>
-    requires { (o : List ℕ) × IsValidOrder m.now.columns m.now.rows o × ArePositions o positions.now }
-    ensures len { IfOk result (λ gaps. length gaps.items ≡ m.now.columns) }
-    ensures gaps { IfOk result (λ gaps. (o : List ℕ) → IsValidOrder m.now.columns m.now.rows o
-        → ArePositions o positions.now → AreGaps m.now.rows o gaps.items) }
-{
-    let mut gaps = vec![in alloc; uncovered(m.columns()); m.columns() as usize]?;
-    for k in 0..m.rows() {
-        take_row(&mut gaps, span_in_order(m.row(k + 1), positions), k + 1);
-    }
-    Ok(gaps)
 }
 
 // The gaps of the order of these positions, which is valid for the first `rows` rows.

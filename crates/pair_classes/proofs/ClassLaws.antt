@@ -9,12 +9,12 @@ use Rattle.row_model.specs.declared.graph.Pair.{Pair}
 use Rattle.row_model.specs.declared.graph.Why.TheVariants.{Flip, Row}
 use Rattle.row_model.specs.Graph.{pair, turned, row_at, IsPair, Joined, Crosses, Evenly}
 use Rattle.row_model.proofs.Walks.{evenly-refl, evenly-trans}
-use Rattle.pair_classes.specs.Numbers.{number_of, place_of}
+use Rattle.odd_cycle.specs.Numbers.{number_of, place_of}
 use Rattle.pair_classes.specs.Unions.{AreParents, AreAlone, AgreesInSets, AreEvenSets, Unites, Flattens}
 use Rattle.pair_classes.specs.Classes.{TellsClasses, pair_of_place, AgreesWith, AgreesAlong}
-use Rattle.pair_classes.proofs.Items.{item_of, has_item}
+use Rattle.odd_cycle.proofs.Items.{item_of, has_item}
 use Rattle.row_model.proofs.Pairs.{same_pair}
-use Rattle.pair_classes.proofs.NumberLaws.{place_of-lt}
+use Rattle.odd_cycle.proofs.NumberLaws.{place_of-lt}
 use Rattle.pair_classes.proofs.EvenLaws.{IsTurnedAlike, evenly_back, evenly_first, evenly_second, evenly_label}
 
 -- at the place of a pair of columns is this pair

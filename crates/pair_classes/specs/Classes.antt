@@ -3,7 +3,7 @@ use Rattle.std.specs.Prelude.{◌≡◌, ◌↔◌, ℕ, ◌+◌, ◌/◌, ◌%�
 use Rattle.column_order.specs.Orders.{has}
 use Rattle.row_model.specs.declared.graph.Pair.{Pair}
 use Rattle.row_model.specs.Graph.{pair, IsPair, Evenly}
-use Rattle.pair_classes.specs.Numbers.{Numbering, number_of, place_of}
+use Rattle.odd_cycle.specs.Numbers.{Numbering, number_of, place_of}
 
 -- two pairs have one number exactly where a walk of even length leads from the one to the other in the graph of these rows
 pub record TellsClasses (c : ℕ) (rows : List (List ℕ)) (t : Numbering) : Type 0 where

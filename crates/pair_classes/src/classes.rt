@@ -2,12 +2,12 @@
 ghost use Rattle.std.specs.Prelude.{◌≡◌, ◌+◌, ◌*◌, ◌<◌, ◌≤◌, ℕ, List, Some, length, take, sum_by, slice_get, IsFalse, IfOk, OnOk};
 ghost use Rattle.column_order.specs.Orders.{has};
 ghost use Rattle.row_model.specs.Graph.{pair, row_at, IsPair};
-ghost use Rattle.pair_classes.specs.Numbers.{place_of};
+ghost use Rattle.odd_cycle.specs.Numbers.{place_of};
 ghost use Rattle.pair_classes.specs.Unions.{AreParents, AgreesInSets, AreEvenSets};
 ghost use Rattle.pair_classes.specs.Classes.{TellsClasses, AgreesWith, AgreesAlong, pair_of_place};
 
-use crate::numbers::PairNumbers;
 use crate::unions::{each_alone, flatten, unite};
+use odd_cycle::PairNumbers;
 use row_model::{COLUMN_BOUND, CountedRows, Matrix, NoMemory, Pair};
 use std::alloc::Global;
 use std::marker::Model;
@@ -21,7 +21,7 @@ pub struct Classes {
 }
 
 impl Model for Classes {
-    ghost use Rattle.pair_classes.specs.Numbers.{Numbering};
+    ghost use Rattle.odd_cycle.specs.Numbers.{Numbering};
 
     ghost Value = { Numbering };
 

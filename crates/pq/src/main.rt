@@ -1,8 +1,8 @@
 //! The program `pq`: the words, files and streams of the system, handed to the top call.
 #![tactic(auto)]
 
+use file_io::{RealShelf, RealSink, write_all};
 use pq_cli::run_real;
-use pq_io::{RealShelf, RealSink, write_all};
 use std::env::FillError;
 use std::process::ExitCode;
 use std::rt::Env;

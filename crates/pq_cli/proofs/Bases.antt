@@ -10,7 +10,7 @@ use Rattle.instance_model.specs.Instance.{InstanceValue, plain, circular, convex
 use Rattle.command_input.specs.Words.{Extend}
 use Rattle.command_input.specs.Instances.{instance_of}
 use Rattle.solve_replies.specs.Charges.{ExtendsWithin}
-use Rattle.reply_laws.specs.Replies.{refused_at, refused_of_two, refusal_of}
+use Rattle.pq_cli.specs.Replies.{refused_at, refused_of_two, refusal_of}
 
 -- an instance of a kind that holds a matrix is that matrix, of that kind
 base_is : (kind k : Kind) (i : InstanceValue) (m : RowList) → i ≡ plain k m → instance_kind i ≡ kind → i ≡ plain kind m

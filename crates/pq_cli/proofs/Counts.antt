@@ -4,13 +4,13 @@ use Rattle.std.specs.Prelude.{Result, Ok, Err, IsErrAnd}
 use Rattle.row_model.specs.Rows.{RowList}
 use Rattle.row_model.specs.declared.refusal.Read.{Read}
 use Rattle.row_model.specs.declared.refusal.Read.TheVariants as read
-use Rattle.pq_io.specs.Taken.{Taken}
+use Rattle.file_io.specs.Taken.{Taken}
 use Rattle.instance_model.specs.Instance.{InstanceValue, IsSideOf}
 use Rattle.command_input.specs.Words.{Command, Solve, Check, Extend, Core, CheckCore, Gen, Meet, ListOrders, UnitModel, CheckUnit}
 use Rattle.verdict_replies.specs.declared.reply.Reply.{Reply}
 use Rattle.solve_replies.specs.Steps.{SolvesMatrixWithin, SolvesWithin}
 use Rattle.solve_replies.specs.Charges.{ExtendsWithin}
-use Rattle.reply_laws.specs.Replies.{refusal_of}
+use Rattle.pq_cli.specs.Replies.{refusal_of}
 use Rattle.pq_cli.specs.Reading.{ReadsFile}
 use Rattle.pq_cli.specs.Runs.{OfTaken, taken_since}
 use Rattle.pq_cli.specs.Stops.{stop_status, reply_status}

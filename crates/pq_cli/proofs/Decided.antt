@@ -2,9 +2,9 @@
 use Rattle.std.proofs.Common.{◌≡◌, ◌⊎◌, ℕ, ◌≤◌, List, Option, Some, None, IfSome, inl, inr, refl, sym, subst, arith}
 use Rattle.std.specs.Prelude.{◌↔◌, IfNone, IsNone, Result, Ok, Err, IfOk, IfErr, IsErrAnd}
 use Rattle.std.specs.Io.KnownBytes.{Appends}
-use Rattle.pq_io.specs.Faults.{Rose}
-use Rattle.pq_io.specs.Sink.{AppendsPrefix}
-use Rattle.pq_io.specs.Taken.{Taken}
+use Rattle.file_io.specs.Faults.{Rose}
+use Rattle.file_io.specs.Sink.{AppendsPrefix}
+use Rattle.file_io.specs.Taken.{Taken}
 use Rattle.command_input.specs.Words.{Command}
 use Rattle.verdict_replies.specs.declared.reply.Reply.{Reply}
 use Rattle.pq_cli.specs.Runs.{TakesFiles, taken_since, WritesOut, CountsWrites, IsLineOf, RunsCommand, failure_line}

@@ -3,14 +3,14 @@ use Rattle.std.proofs.Common.{◌≡◌, ◌≢◌, ◌⊎◌, ℕ, ◌<◌, ◌
 use Rattle.std.specs.Prelude.{Result, Ok, Err, IsErrAnd}
 use Rattle.std.proofs.lemmas.Bool.{cases_eq}
 use Rattle.std.proofs.Math.Seq.{drop-append_seam}
-use Rattle.pq_io.specs.Faults.{Rose}
-use Rattle.pq_io.specs.Taken.{Taken}
+use Rattle.file_io.specs.Faults.{Rose}
+use Rattle.file_io.specs.Taken.{Taken}
 use Rattle.row_model.specs.declared.refusal.Refusal.{Refusal}
 use Rattle.row_model.specs.declared.refusal.Read.{Read}
 use Rattle.row_model.specs.declared.refusal.Read.TheVariants as read
 use Rattle.command_input.specs.Words.{Command, files_of}
 use Rattle.pq_cli.specs.Reading.{FitsTaken, OnlyReads, IsStopAt, ReadsFile}
-use Rattle.reply_laws.specs.Replies.{refusable, refusal_of, Replies}
+use Rattle.pq_cli.specs.Replies.{refusable, refusal_of, Replies}
 use Rattle.pq_cli.specs.Runs.{OfTaken, AgreesWith, taken_since, EndsAtRefusal, StopsAt, RunsOver, RunsCommand}
 use Rattle.pq_cli.specs.Real.{names_taken}
 use Rattle.pq_cli.specs.Stops.{stop_status}

@@ -1,7 +1,7 @@
 -- The lines that tell of what stood in the way.
 use Rattle.std.proofs.Common.{◌≡◌, ◌⊎◌, ℕ, List, Option, Some, inl, inr, refl, arith, subst, IfSome, codes}
 use Rattle.row_model.specs.declared.refusal.Refusal.{Refusal}
-use Rattle.pq_io.specs.Taken.{Taken}
+use Rattle.file_io.specs.Taken.{Taken}
 use Rattle.command_input.specs.Words.{Command}
 use Rattle.pq_cli.specs.Runs.{EndsAtRefusal, StopsAt, refused_line, stop_line, failure_line, IsLineOf}
 use Rattle.pq_cli.specs.Stops.{stop_status}

@@ -5,14 +5,14 @@ use Rattle.std.proofs.lemmas.Bool.{cases_eq}
 use Rattle.matrix_read.specs.Sparse.{further}
 use Rattle.instance_model.specs.Instance.{InstanceValue, derived_matrix}
 use Rattle.command_input.specs.Words.{Command, Solve, Check, Extend, Gen, Meet, ListOrders, UnitModel, CheckUnit, Core, CheckCore}
-use Rattle.reply_laws.specs.Replies.{refused_at, refused_of_two, refusal_of, Replies}
-use Rattle.pq_io.specs.Taken.{Taken}
+use Rattle.pq_cli.specs.Replies.{refused_at, refused_of_two, refusal_of, Replies}
+use Rattle.file_io.specs.Taken.{Taken}
 use Rattle.pq_cli.specs.Runs.{AllFit, OfTaken, taken_since, TakesFiles, WritesOut, CountsWrites, failure_line}
 use Rattle.command_input.specs.TreeFiles.{tree_file}
 use Rattle.pq_cli.specs.Stops.{stop_status, failure_status, run_status}
 use Rattle.pq_cli.specs.Promise.{NothingFails, WhereWellFormed, Completes, KeepsPromise}
-use Rattle.reply_laws.specs.Promise.{PromiseLaw}
-use Rattle.reply_laws.specs.Answer.{IsAnswer, AnswerLaw}
+use Rattle.pq_cli.specs.Promised.{PromiseLaw}
+use Rattle.pq_cli.specs.Answer.{IsAnswer, AnswerLaw}
 use Rattle.pq_cli.specs.declared.stop.Stop.{Stop}
 use Rattle.pq_cli.specs.declared.stop.Stop.TheVariants as stop
 use Rattle.pq_cli.specs.declared.stop.Failure.{Failure}

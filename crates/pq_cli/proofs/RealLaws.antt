@@ -1,8 +1,8 @@
 -- What is said of the files and streams of the system.
 use Rattle.std.proofs.Common.{◌≡◌, ◌≢◌, ◌⊎◌, ℕ, List, [], ◌∷◌, Option, None, Some, IfSome, subst, sym, refl, append-nil}
-use Rattle.pq_io.specs.Taken.{Taken}
+use Rattle.file_io.specs.Taken.{Taken}
 use Rattle.command_input.specs.Words.{Command}
-use Rattle.reply_laws.specs.Replies.{refusal_of}
+use Rattle.pq_cli.specs.Replies.{refusal_of}
 use Rattle.pq_cli.specs.Reading.{FitsTaken}
 use Rattle.pq_cli.specs.Runs.{AllFit, OfTaken, AgreesWith, taken_since, WritesOut, TakesFiles}
 use Rattle.pq_cli.specs.Real.{names_taken, bytes_taken, RepliesTo}

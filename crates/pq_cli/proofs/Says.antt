@@ -1,8 +1,8 @@
 -- What each command over the file of an instance replies, by what its call makes of the instance.
 use Rattle.std.proofs.Common.{◌≡◌, ◌⊎◌, ◌∙◌, ℕ, List, [], ◌∷◌, sym, ap, subst}
 use Rattle.std.specs.Prelude.{Result, Ok, Err, IfOk}
-use Rattle.pq_io.specs.Whole.{IsWhole}
-use Rattle.pq_io.specs.declared.reading.Whole.{Whole}
+use Rattle.file_io.specs.Whole.{IsWhole}
+use Rattle.file_io.specs.declared.reading.Whole.{Whole}
 use Rattle.row_model.specs.declared.kind.Kind.{Kind}
 use Rattle.row_model.specs.declared.refusal.Read.TheVariants as read
 use Rattle.instance_model.specs.declared.instance.Instance.{Instance}
@@ -10,7 +10,7 @@ use Rattle.instance_model.specs.Instance.{InstanceValue}
 use Rattle.instance_model.specs.Value.{instance_value}
 use Rattle.command_input.specs.Words.{Command}
 use Rattle.command_input.specs.Instances.{instance_of, ReadsInstance}
-use Rattle.reply_laws.specs.Replies.{Replies}
+use Rattle.pq_cli.specs.Replies.{Replies}
 use Rattle.verdict_replies.specs.declared.reply.Reply.{Reply}
 use Rattle.solve_replies.specs.Steps.{SolvesWithin}
 use Rattle.pq_cli.specs.Over.{RepliesWhere, IsMade, RepliesToInstance}

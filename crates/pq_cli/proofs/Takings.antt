@@ -3,17 +3,17 @@ use Rattle.std.proofs.Common.{◌≡◌, ◌≢◌, ◌≤◌, ℕ, Bool, true, 
 use Rattle.std.specs.Prelude.{Ok, Err}
 use Rattle.std.proofs.lemmas.List.{length-append}
 use Rattle.std.specs.Io.KnownBytes.{Consumes, IsAtEnd}
-use Rattle.pq_io.specs.Faults.{Rose}
-use Rattle.pq_io.specs.Shelf.{FailsOnlyIfRose, ChangedOnlyIfNotFound}
-use Rattle.pq_io.specs.Taken.{Taken, asked_for, handed_out, Asks}
-use Rattle.pq_io.specs.Whole.{FaultsOnlyIfRose, ChangedOnlyIfFault, IsWhole, IsAtMost, IsHandedOut, HandsOutPart}
-use Rattle.pq_io.specs.Through.{IsMadeOf}
-use Rattle.pq_io.specs.declared.error.ChooseError.{ChooseError}
-use Rattle.pq_io.specs.declared.error.ChooseError.TheVariants as choice
-use Rattle.pq_io.specs.declared.error.ReadFail.{ReadFail}
-use Rattle.pq_io.specs.declared.error.ReadFail.TheVariants as fail
-use Rattle.pq_io.specs.declared.reading.Whole.{Whole}
-use Rattle.pq_io.specs.declared.reading.Whole.TheVariants as whole
+use Rattle.file_io.specs.Faults.{Rose}
+use Rattle.file_io.specs.Shelf.{FailsOnlyIfRose, ChangedOnlyIfNotFound}
+use Rattle.file_io.specs.Taken.{Taken, asked_for, handed_out, Asks}
+use Rattle.file_io.specs.Whole.{FaultsOnlyIfRose, ChangedOnlyIfFault, IsWhole, IsAtMost, IsHandedOut, HandsOutPart}
+use Rattle.file_io.specs.Through.{IsMadeOf}
+use Rattle.file_io.specs.declared.error.ChooseError.{ChooseError}
+use Rattle.file_io.specs.declared.error.ChooseError.TheVariants as choice
+use Rattle.file_io.specs.declared.error.ReadFail.{ReadFail}
+use Rattle.file_io.specs.declared.error.ReadFail.TheVariants as fail
+use Rattle.file_io.specs.declared.reading.Whole.{Whole}
+use Rattle.file_io.specs.declared.reading.Whole.TheVariants as whole
 use Rattle.row_model.specs.declared.refusal.Read.{Read}
 use Rattle.row_model.specs.declared.refusal.Read.TheVariants as read
 use Rattle.pq_cli.specs.Reading.{FitsTaken, OnlyReads, ReadsAs, ReadsWhole, IsMadeWithin, value_of}

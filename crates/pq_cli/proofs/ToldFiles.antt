@@ -7,11 +7,11 @@ use Rattle.row_model.specs.declared.refusal.Read.{Read}
 use Rattle.row_model.specs.declared.refusal.Read.TheVariants as read
 use Rattle.matrix_read.specs.Sparse.{further}
 use Rattle.instance_model.specs.Instance.{InstanceValue, derived_matrix}
-use Rattle.pq_io.specs.Taken.{Taken}
+use Rattle.file_io.specs.Taken.{Taken}
 use Rattle.command_input.specs.Words.{Command, Solve, Check, Extend, Gen, Meet, ListOrders, UnitModel, CheckUnit, Core, CheckCore, files_of}
 use Rattle.command_input.specs.Instances.{instance_of}
 use Rattle.command_input.specs.TreeFiles.{tree_file}
-use Rattle.reply_laws.specs.Replies.{refused_at, refused_of_two, refusal_of}
+use Rattle.pq_cli.specs.Replies.{refused_at, refused_of_two, refusal_of}
 use Rattle.pq_cli.specs.Runs.{AllFit, taken_since, TakesFiles}
 use Rattle.pq_cli.specs.Promise.{Completes, KeepsPromise}
 use Rattle.pq_cli.specs.Told.{AllTold, WhereToldFine, CompletesOverTold, KeepsPromiseOverTold}

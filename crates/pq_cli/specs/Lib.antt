@@ -1,3 +1,14 @@
+pub mod Replies
+pub mod Solve
+pub mod Units
+pub mod UnitChecks
+pub mod Check
+pub mod Extend
+pub mod Core
+pub mod Meet
+pub mod Lists
+pub mod Promised
+pub mod Answer
 pub mod Stops
 pub mod Reading
 pub mod Further

@@ -1,12 +1,12 @@
 -- Commands over the file of an instance: the files that they name, and what their replies have to be.
 use Rattle.std.specs.Prelude.{◌≡◌, ◌⊎◌, ℕ, ◌≤◌, List, [], ◌∷◌, Result, IfOk}
-use Rattle.pq_io.specs.Whole.{IsWhole}
+use Rattle.file_io.specs.Whole.{IsWhole}
 use Rattle.row_model.specs.declared.kind.Kind.{Kind}
 use Rattle.row_model.specs.declared.refusal.Read.TheVariants as read
 use Rattle.instance_model.specs.declared.instance.Instance.{Instance}
 use Rattle.command_input.specs.Words.{Command, files_of}
 use Rattle.command_input.specs.Instances.{instance_of, ReadsInstance, IsInstanceOf}
-use Rattle.reply_laws.specs.Replies.{refusable, refused_at, refusal_of, Replies}
+use Rattle.pq_cli.specs.Replies.{refusable, refused_at, refusal_of, Replies}
 use Rattle.verdict_replies.specs.declared.reply.Reply.{Reply}
 use Rattle.solve_replies.specs.Steps.{made_status}
 use Rattle.pq_cli.specs.declared.over.Both.{Both}

@@ -1,12 +1,12 @@
 -- What a run promises where nothing fails. A shelf is seen by what was taken of its files.
 use Rattle.std.specs.Prelude.{◌≡◌, ◌≢◌, ◌⊎◌, ℕ, List, Option, None}
 use Rattle.std.specs.Io.KnownBytes.{Appends}
-use Rattle.pq_io.specs.Faults.{Rose}
-use Rattle.pq_io.specs.Taken.{Taken}
+use Rattle.file_io.specs.Faults.{Rose}
+use Rattle.file_io.specs.Taken.{Taken}
 use Rattle.command_input.specs.Words.{Command}
-use Rattle.reply_laws.specs.Replies.{refusal_of}
+use Rattle.pq_cli.specs.Replies.{refusal_of}
 use Rattle.pq_cli.specs.Runs.{OfTaken, WritesReply}
-use Rattle.reply_laws.specs.Promise.{IsPromised}
+use Rattle.pq_cli.specs.Promised.{IsPromised}
 
 -- no read and no write fails, and memory is not refused: neither count of faults rose, and the status is not 6
 pub record NothingFails (reads_before reads_after writes_before writes_after status : ℕ) : Type 0 where

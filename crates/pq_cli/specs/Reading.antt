@@ -1,10 +1,10 @@
 -- What the reading of one file gives. A shelf is seen by what was taken of its files, the bytes that it tells of them, and
 -- its count of faults.
 use Rattle.std.specs.Prelude.{◌≡◌, ◌≢◌, ◌⊎◌, ⊤, ℕ, ◌<◌, ◌≤◌, true, List, [], ◌∷◌, ◌++◌, length, Option, Some, None, IfSome, Result, Ok, Err, IfOk, IfErr}
-use Rattle.pq_io.specs.Faults.{Rose}
-use Rattle.pq_io.specs.Taken.{Taken}
-use Rattle.pq_io.specs.Whole.{IsWhole}
-use Rattle.pq_io.specs.declared.reading.Whole.{Whole}
+use Rattle.file_io.specs.Faults.{Rose}
+use Rattle.file_io.specs.Taken.{Taken}
+use Rattle.file_io.specs.Whole.{IsWhole}
+use Rattle.file_io.specs.declared.reading.Whole.{Whole}
 use Rattle.row_model.specs.declared.TheConstants.{MAX_FILE_BYTES}
 use Rattle.row_model.specs.declared.code.TheConstants.{LIMIT}
 use Rattle.row_model.specs.declared.refusal.Read.{Read}

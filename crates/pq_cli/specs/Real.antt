@@ -1,8 +1,8 @@
 -- What is said of the files and streams of the system.
 use Rattle.std.specs.Prelude.{◌≡◌, ℕ, List, ◌++◌, map}
-use Rattle.pq_io.specs.Taken.{Taken}
+use Rattle.file_io.specs.Taken.{Taken}
 use Rattle.command_input.specs.Words.{Command}
-use Rattle.reply_laws.specs.Replies.{Replies}
+use Rattle.pq_cli.specs.Replies.{Replies}
 
 -- the names of the files that were taken
 abbrev pub names_taken : List Taken → List (List ℕ)

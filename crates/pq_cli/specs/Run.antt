@@ -1,8 +1,8 @@
 -- A run of the top call, from its words to its status.
 use Rattle.std.specs.Prelude.{◌≡◌, ◌⊎◌, ◌↔◌, ◌≤◌, ℕ, List, Option, IfSome, IfNone, IsNone}
-use Rattle.pq_io.specs.Taken.{Taken}
+use Rattle.file_io.specs.Taken.{Taken}
 use Rattle.command_input.specs.Words.{Command}
-use Rattle.reply_laws.specs.Answer.{IsAnswer}
+use Rattle.pq_cli.specs.Answer.{IsAnswer}
 use Rattle.pq_cli.specs.Runs.{OfTaken, TakesFiles, taken_since, WritesOut, CountsWrites, Offers, IsLineOf}
 use Rattle.pq_cli.specs.Promise.{NothingFails, Completes, KeepsPromise}
 

@@ -4,12 +4,12 @@ use Rattle.std.specs.Prelude.{◌≡◌, ◌≢◌, ◌⊎◌, ⊤, ℕ, ◌-◌
 use Rattle.std.specs.List.{AllZip}
 use Rattle.std.specs.Io.KnownBytes.{Appends}
 use Rattle.std.specs.Fmt.{decimal}
-use Rattle.pq_io.specs.Faults.{Rose}
-use Rattle.pq_io.specs.Taken.{Taken}
-use Rattle.pq_io.specs.Sink.{AppendsPrefix}
+use Rattle.file_io.specs.Faults.{Rose}
+use Rattle.file_io.specs.Taken.{Taken}
+use Rattle.file_io.specs.Sink.{AppendsPrefix}
 use Rattle.row_model.specs.declared.refusal.Refusal.{Refusal}
 use Rattle.command_input.specs.Words.{Command, files_of}
-use Rattle.reply_laws.specs.Replies.{refusable, refusal_of, Replies}
+use Rattle.pq_cli.specs.Replies.{refusable, refusal_of, Replies}
 use Rattle.pq_cli.specs.Reading.{FitsTaken, OnlyReads}
 use Rattle.pq_cli.specs.Stops.{reply_status}
 use Rattle.pq_cli.specs.declared.stop.Stop.{Stop}

@@ -4,7 +4,7 @@ use Rattle.row_model.specs.Rows.{RowList}
 use Rattle.row_model.specs.declared.kind.Kind.{Kind}
 use Rattle.row_model.specs.declared.kind.Kind.TheVariants.{Proper}
 use Rattle.row_model.specs.declared.refusal.Read.TheVariants as read
-use Rattle.pq_io.specs.Taken.{Taken}
+use Rattle.file_io.specs.Taken.{Taken}
 use Rattle.pq_tree.specs.Outline.{Outline}
 use Rattle.matrix_read.specs.Sparse.{further}
 use Rattle.instance_model.specs.Instance.{InstanceValue, plain}
@@ -17,7 +17,7 @@ use Rattle.verdict_replies.specs.declared.reply.Reply.{Reply}
 use Rattle.solve_replies.specs.Generated.{generated}
 use Rattle.solve_replies.specs.Steps.{made_status, SolvesMatrixWithin, SolvesWithin, FindsCoreWithin, MeetsWithin}
 use Rattle.solve_replies.specs.Charges.{ExtendsWithin}
-use Rattle.reply_laws.specs.Replies.{refusal_of}
+use Rattle.pq_cli.specs.Replies.{refusal_of}
 use Rattle.pq_cli.specs.Runs.{OfTaken, taken_since}
 use Rattle.pq_cli.specs.Stops.{reply_status}
 use Rattle.pq_cli.specs.declared.stop.Stop.{Stop}

@@ -4,8 +4,8 @@ use Rattle.std.specs.Prelude.{◌≡◌, ◌≢◌, ◌⊎◌, ℕ, List, Option
 use Rattle.std.specs.List.{AllZip}
 use Rattle.std.specs.Io.KnownBytes.{Appends}
 use Rattle.command_input.specs.Words.{Command, files_of}
-use Rattle.reply_laws.specs.Replies.{refusal_of}
-use Rattle.reply_laws.specs.Promise.{IsPromised}
+use Rattle.pq_cli.specs.Replies.{refusal_of}
+use Rattle.pq_cli.specs.Promised.{IsPromised}
 use Rattle.pq_cli.specs.Runs.{WritesReply}
 
 -- the files of these names have these bytes, as a shelf tells them

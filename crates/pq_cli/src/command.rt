@@ -13,7 +13,7 @@ use commands::{
     MAX_CORE_BYTES, MAX_VERDICT_BYTES, Reply, Task, core_judgement_reply, finding_reply,
     judgement_reply,
 };
-use pq_io::Shelf;
+use file_io::Shelf;
 use row_model::Kind;
 use solve_replies::summary_reply;
 use std::alloc::Global;

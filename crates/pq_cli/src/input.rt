@@ -2,14 +2,14 @@
 ghost use Rattle.std.specs.Prelude.{◌≡◌, ◌≤◌, ◌^◌, List, ℕ, length, IsOk, IfOk, IfErr};
 ghost use Rattle.row_model.specs.declared.TheConstants.{MAX_FILE_BYTES};
 ghost use Rattle.row_model.specs.declared.code.TheConstants.{LIMIT};
-ghost use Rattle.pq_io.specs.Taken.{Taken};
-ghost use Rattle.pq_io.specs.Whole.{IsWhole};
+ghost use Rattle.file_io.specs.Taken.{Taken};
+ghost use Rattle.file_io.specs.Whole.{IsWhole};
 ghost use Rattle.pq_cli.specs.Reading.{OnlyReads, IsReadStop, RefusesLong, ReadsFile, ReadsWhole, ReadsBytes, IsMadeWithin, IsRead, value_of};
 ghost use Rattle.pq_cli.specs.Stops.{read_status};
 
 use crate::NoMemory;
 use crate::stop::Stop;
-use pq_io::{ChooseError, ReadFail, Shelf, Taker, Whole, read_all, read_through};
+use file_io::{ChooseError, ReadFail, Shelf, Taker, Whole, read_all, read_through};
 use row_model::{MAX_FILE_BYTES, Read, Refusal, code};
 use std::alloc::Global;
 

@@ -7,7 +7,7 @@
 //! Each command is a case of `perform` (`command`). Most go over the file of an instance, and some over that of a text
 //! too, which is judged (`over`); `extend` and `meet` take their files themselves, and `gen` has none. A crate below
 //! makes the reply of what was read. How a file is read by the form that it should have is in `input`, and what may stand
-//! in the way in `stop`. The words are read by `command_input`, and `reply_laws` says what the replies mean.
+//! in the way in `stop`. The words are read by `command_input`, and `replies` says what the replies mean.
 #![tactic(auto)]
 
 ghost use Rattle.std.specs.Prelude.{◌≡◌};
@@ -22,16 +22,22 @@ mod making;
 mod meet;
 mod over;
 mod real;
+mod replies;
 mod report;
 mod stop;
 mod top;
 
 pub use commands::{MAX_CORE_BYTES, MAX_VERDICT_BYTES, tree_file_law};
 pub use real::{own_law, run_real, told_files_law, told_law};
-pub use reply_laws::{
-    check_law, core_judgement_law, core_law, extend_law, list_law, meet_law, model_law,
-    promise_law, reply_law, solved_law, unit_check_law, unit_reply_law,
-};
+pub use replies::check::{check_law, solved_law};
+pub use replies::core_rows::{core_judgement_law, core_law};
+pub use replies::extend::extend_law;
+pub use replies::list::list_law;
+pub use replies::meet::meet_law;
+pub use replies::promise::promise_law;
+pub use replies::solve::{model_law, reply_law};
+pub use replies::unit::unit_reply_law;
+pub use replies::unit_check::unit_check_law;
 pub use row_model::NoMemory;
 pub use solve_replies::{MAX_EXPLAINED, generate, generated_law};
 pub use stop::{Failure, Stop};

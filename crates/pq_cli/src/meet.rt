@@ -9,7 +9,7 @@ use crate::input::read_file;
 use crate::meet::tree_file::TreeFile;
 use crate::stop::Stop;
 use commands::{Reply, meeting_reply};
-use pq_io::Shelf;
+use file_io::Shelf;
 use solve_replies::Solver;
 use std::alloc::Global;
 use step_count::{Ledger, Steps};

@@ -1,16 +1,16 @@
 // The top call over the files and streams of the system, and laws on what a shelf keeps of its files.
 ghost use Rattle.std.specs.Prelude.{◌≡◌, ◌⊎◌, ◌≢◌, ◌≤◌, ◌↔◌, List, ℕ, Option, None, Some, IfNone, IsNone, IfSome};
 ghost use Rattle.command_input.specs.Words.{Command, texts, command_of};
-ghost use Rattle.reply_laws.specs.Replies.{refusal_of};
-ghost use Rattle.reply_laws.specs.Answer.{IsAnswer};
-ghost use Rattle.pq_io.specs.Taken.{Taken};
+ghost use Rattle.pq_cli.specs.Replies.{refusal_of};
+ghost use Rattle.pq_cli.specs.Answer.{IsAnswer};
+ghost use Rattle.file_io.specs.Taken.{Taken};
 ghost use Rattle.pq_cli.specs.Runs.{AllFit, OfTaken, AgreesWith, TakesFiles, taken_since, WritesOut, CountsWrites, Offers, IsLineOf};
 ghost use Rattle.pq_cli.specs.Promise.{NothingFails, Completes, KeepsPromise};
 ghost use Rattle.pq_cli.specs.Real.{names_taken, bytes_taken, RepliesTo};
 ghost use Rattle.pq_cli.specs.Told.{AllTold, CompletesOverTold, KeepsPromiseOverTold};
 
 use crate::top::run;
-use pq_io::{RealShelf, RealSink, Shelf};
+use file_io::{RealShelf, RealSink, Shelf};
 use std::alloc::Global;
 use std::io::{Input, Stderr, Stdout};
 use std::rt::Files;

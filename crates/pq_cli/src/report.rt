@@ -4,8 +4,8 @@ ghost use Rattle.pq_cli.specs.Runs.{Offers, refused_line, stop_line, failure_lin
 
 use crate::stop::{Failure, Stop};
 use arrayvec::ArrayString;
+use file_io::{Sink, write_all};
 use itoa::Buffer;
-use pq_io::{Sink, write_all};
 use row_model::Refusal;
 
 /// Offers the line of a failure to a sink, whose faults are passed over. It takes no memory.

@@ -1,7 +1,7 @@
 // The top call: one command, from the words to the status.
 ghost use Rattle.std.specs.Prelude.{◌≡◌, ◌⊎◌, ◌↔◌, ◌<◌, ◌≤◌, IfNone, IfOk, IfErr, IsNone, List, ℕ, IfSome};
 ghost use Rattle.command_input.specs.Words.{texts, command_of};
-ghost use Rattle.reply_laws.specs.Answer.{IsAnswer};
+ghost use Rattle.pq_cli.specs.Answer.{IsAnswer};
 ghost use Rattle.pq_cli.specs.Runs.{OfTaken, TakesFiles, taken_since, WritesOut, CountsWrites, Offers, IsLineOf, failure_line};
 ghost use Rattle.pq_cli.specs.Stops.{run_status, failure_status};
 ghost use Rattle.pq_cli.specs.Steps.{CountsSteps};
@@ -9,11 +9,11 @@ ghost use Rattle.pq_cli.specs.Promise.{NothingFails, Completes, KeepsPromise};
 ghost use Rattle.pq_cli.specs.Run.{RunsWords};
 
 use crate::command::perform;
+use crate::replies::promise::{answer_law, promise_law};
 use crate::report::report;
 use crate::stop::Failure;
 use commands::task_of;
-use pq_io::{Shelf, Sink, write_all};
-use reply_laws::{answer_law, promise_law};
+use file_io::{Shelf, Sink, write_all};
 use std::alloc::Global;
 use step_count::{Blank, Brand, Ledger, Steps};
 

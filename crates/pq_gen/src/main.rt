@@ -1,8 +1,8 @@
 //! A run of `gen 7 6 4`, which is stored with what it writes: the same bytes, whichever compiler has built it.
 #![tactic(auto)]
 
+use file_io::{NoMemory, RealShelf, RealSink};
 use pq_cli::run_real;
-use pq_io::{NoMemory, RealShelf, RealSink};
 use std::alloc::Global;
 use std::process::ExitCode;
 

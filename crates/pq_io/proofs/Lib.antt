@@ -1,4 +1,2 @@
 pub mod Files
-pub mod Handed
 pub mod Pieces
-pub mod Through

@@ -1,16 +1,5 @@
-pub mod Chosen
-pub mod Errors
-pub mod Faults
 pub mod MemFile
 pub mod MemShelf
 pub mod MemSink
 pub mod NamedFiles
 pub mod NeverShelf
-pub mod RealShelf
-pub mod RealSink
-pub mod Shelf
-pub mod Sink
-pub mod Source
-pub mod Taken
-pub mod Through
-pub mod Whole

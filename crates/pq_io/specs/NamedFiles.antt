@@ -1,7 +1,7 @@
 -- Files by name, of which the last one of a name counts.
 use Rattle.std.specs.Prelude.{ℕ, List, Option, Some, None, fold, if◌then◌else◌}
 use Rattle.std.specs.Str.{bytes_eq}
-use Rattle.pq_io.specs.Taken.{Taken}
+use Rattle.file_io.specs.Taken.{Taken}
 
 -- a file: its name and its bytes
 pub record NamedFile : Type 0 where

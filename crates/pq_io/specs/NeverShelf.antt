@@ -1,6 +1,6 @@
 -- What a shelf that never fails holds.
 use Rattle.std.specs.Prelude.{◌≡◌, ℕ, List, [], Option, Some, if◌then◌else◌, unwrap_or}
-use Rattle.pq_io.specs.Taken.{Taken}
+use Rattle.file_io.specs.Taken.{Taken}
 use Rattle.pq_io.specs.NamedFiles.{NamedFile, content_of}
 use Rattle.pq_io.specs.declared.never_shelf.NeverShelf.TheInside.{Inside}
 

@@ -1,43 +1,19 @@
-//! Where bytes come from, and where they go to.
-//!
-//! A [`Shelf`] holds files by name: one is chosen, and then it is read. A [`Sink`] takes bytes. Each counts its
-//! own failures, and may tell the bytes that it holds. [`read_all`] reads a file whole up to a limit, [`read_through`]
-//! hands it to a [`Taker`] in pieces, and [`write_all`] writes a text whole.
+//! Where bytes come from, and where they go to: all of `file_io`, and shelves and sinks in memory.
 //!
 //! [`MemShelf`] and [`MemSink`] lie in memory and tell their bytes; their calls fail, and move few bytes at a time,
-//! where that is asked for. [`NeverShelf`] and [`NeverSink`] never fail. [`RealShelf`] and [`RealSink`] are the files
-//! and the streams of the system; they tell what their reads handed out and what they answered as written, in a history
-//! that proofs alone see.
+//! where that is asked for. [`NeverShelf`] and [`NeverSink`] never fail. The program needs none of them.
 #![tactic(auto)]
 
-mod begun;
-mod chosen;
-mod error;
-mod flushed;
-mod history;
 mod mem_shelf;
 mod mem_sink;
 mod never_shelf;
 mod never_sink;
-mod reading;
-mod real_shelf;
-mod real_sink;
-mod retried;
-mod shelf;
-mod sink;
-mod taker;
-mod writing;
 
-pub use error::{ChooseError, Failed, ReadFail, WriteFault};
+pub use file_io::{
+    ChooseError, Failed, NoMemory, ReadFail, RealShelf, RealSink, Shelf, Sink, Taker, Whole,
+    WriteFault, read_all, read_through, write_all,
+};
 pub use mem_shelf::MemShelf;
 pub use mem_sink::MemSink;
 pub use never_shelf::NeverShelf;
 pub use never_sink::NeverSink;
-pub use reading::{Whole, read_all, read_through};
-pub use real_shelf::RealShelf;
-pub use real_sink::RealSink;
-pub use shelf::Shelf;
-pub use sink::Sink;
-pub use std::alloc::AllocError as NoMemory;
-pub use taker::Taker;
-pub use writing::write_all;

@@ -2,14 +2,14 @@
 ghost use Rattle.std.specs.Prelude.{◌≡◌, ◌≢◌, ◌<◌, ◌≤◌, ◌+◌, ◌-◌, ◌^◌, ◌||◌, ℕ, List, [], ◌∷◌, ◌++◌, Some, None, length, take, drop, min, is_some, is_none, is_err, true, false, slice_get, IsTrue, IfOk, IfSome, IfNone, OnOk, OnErr};
 ghost use Rattle.std.specs.Io.{ReadsAtMost};
 ghost use Rattle.std.specs.Io.KnownBytes.{ReadConsumes};
-ghost use Rattle.pq_io.specs.Faults.{HasCause, ChangedOnlyIfFailed, one_more, count_after, is_to_fail};
-ghost use Rattle.pq_io.specs.Taken.{Asks, HandsOut};
-ghost use Rattle.pq_io.specs.Shelf.{HasChoiceCause, ChangedOnlyIfNotFound, FailsExactly, count_after_choice};
+ghost use Rattle.file_io.specs.Faults.{HasCause, ChangedOnlyIfFailed, one_more, count_after, is_to_fail};
+ghost use Rattle.file_io.specs.Taken.{Asks, HandsOut};
+ghost use Rattle.file_io.specs.Shelf.{HasChoiceCause, ChangedOnlyIfNotFound, FailsExactly, count_after_choice};
 ghost use Rattle.pq_io.specs.NamedFiles.{content_of};
 ghost use Rattle.pq_io.specs.MemFile.{bytes_at, has_name, IsNamedByNone};
 
-use crate::history::History;
 use crate::{ChooseError, Failed, NoMemory, Shelf};
+use file_io::History;
 use std::alloc::Global;
 use std::marker::Model;
 

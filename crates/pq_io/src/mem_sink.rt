@@ -1,8 +1,8 @@
 // A sink in memory.
 ghost use Rattle.std.specs.Prelude.{◌≡◌, ◌<◌, ◌≤◌, ◌+◌, ◌-◌, ◌^◌, ◌==◌, ◌||◌, [], ◌∷◌, ◌++◌, Some, length, min, is_err, IfOk, OnOk, OnErr};
 ghost use Rattle.std.specs.Io.KnownBytes.{WriteAppends};
-ghost use Rattle.pq_io.specs.Faults.{HasCause, ChangedOnlyIfFailed, one_more, count_after, is_to_fail};
-ghost use Rattle.pq_io.specs.Sink.{TakesSome};
+ghost use Rattle.file_io.specs.Faults.{HasCause, ChangedOnlyIfFailed, one_more, count_after, is_to_fail};
+ghost use Rattle.file_io.specs.Sink.{TakesSome};
 
 use crate::{Failed, NoMemory, Sink};
 use std::alloc::Global;

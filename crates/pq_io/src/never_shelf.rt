@@ -2,14 +2,14 @@
 ghost use Rattle.std.specs.Prelude.{◌≡◌, ◌≢◌, ◌<◌, ℕ, List, [], Some, None, length, is_some, false, IsTrue, IsOk, OnOk, OnErr};
 ghost use Rattle.std.specs.Io.{ReadsAtMost};
 ghost use Rattle.std.specs.Io.KnownBytes.{ReadConsumes};
-ghost use Rattle.pq_io.specs.Faults.{HasCause, ChangedOnlyIfFailed};
-ghost use Rattle.pq_io.specs.Taken.{Asks, HandsOut};
-ghost use Rattle.pq_io.specs.Shelf.{HasChoiceCause, ChangedOnlyIfNotFound};
+ghost use Rattle.file_io.specs.Faults.{HasCause, ChangedOnlyIfFailed};
+ghost use Rattle.file_io.specs.Taken.{Asks, HandsOut};
+ghost use Rattle.file_io.specs.Shelf.{HasChoiceCause, ChangedOnlyIfNotFound};
 ghost use Rattle.pq_io.specs.NamedFiles.{content_of};
 ghost use Rattle.pq_io.specs.NeverShelf.{content_or_empty};
 
-use crate::history::History;
 use crate::{ChooseError, Failed, MemShelf, NoMemory, Shelf};
+use file_io::History;
 use std::alloc::Global;
 use std::marker::Model;
 

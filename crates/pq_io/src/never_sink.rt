@@ -1,8 +1,8 @@
 // A sink that never fails.
 ghost use Rattle.std.specs.Prelude.{◌≡◌, ◌<◌, ◌+◌, ◌-◌, ◌^◌, None, length, min, IsOk, IfOk};
 ghost use Rattle.std.specs.Io.KnownBytes.{WriteAppends};
-ghost use Rattle.pq_io.specs.Faults.{HasCause, ChangedOnlyIfFailed};
-ghost use Rattle.pq_io.specs.Sink.{TakesSome};
+ghost use Rattle.file_io.specs.Faults.{HasCause, ChangedOnlyIfFailed};
+ghost use Rattle.file_io.specs.Sink.{TakesSome};
 
 use crate::{Failed, Sink};
 use std::marker::Model;

@@ -5,25 +5,25 @@ use Rattle.pq_tree.specs.Outline.{Outline, Forest, q_node, no_tree}
 use Rattle.pq_tree.specs.Proper.{outline_of}
 use Rattle.pq_tree.specs.Forests.{forest, back}
 use Rattle.pq_tree.specs.declared.Tree.{Tree}
-use Rattle.template_theory.specs.Templates.{Partial, Label, IsTwoSidedRun, run_full}
-use Rattle.template_theory.specs.Chosen.{IsRootOfQ, root_q1, root_q2, root_q3}
+use Rattle.tree_theory.specs.Templates.{Partial, Label, IsTwoSidedRun, run_full}
+use Rattle.tree_theory.specs.Chosen.{IsRootOfQ, root_q1, root_q2, root_q3}
 use Rattle.pq_plain.specs.Cuts.{IsSpanCut}
-use Rattle.template_theory.specs.Outcomes.{Finds}
-use Rattle.template_theory.specs.Outcomes.{HasRootLabels}
+use Rattle.tree_theory.specs.Outcomes.{FindsAny}
+use Rattle.tree_theory.specs.Outcomes.{HasRootLabels}
 use Rattle.pq_plain.specs.Seen.{outlines, label_seen}
 use Rattle.pq_plain.specs.declared.label.Label.{Label as Marked}
 use Rattle.pq_plain.specs.declared.at_root.Span.{Span as Places}
-use Rattle.template_theory.proofs.Computed.{Span, at_span}
+use Rattle.tree_theory.proofs.Computed.{Span, at_span}
 use Rattle.pq_plain.proofs.Places.{span_seen}
-use Rattle.template_theory.proofs.Meaning.{span_parts}
-use Rattle.template_theory.proofs.NoOrder.{root_q_failed}
-use Rattle.template_theory.proofs.QPatterns.{run_span, rear_span}
-use Rattle.template_theory.proofs.RootTemplates.{root_q_is}
-use Rattle.template_theory.proofs.Sound.{labels_sound, lowest_root_q}
+use Rattle.tree_theory.proofs.Meaning.{span_parts}
+use Rattle.tree_theory.proofs.NoOrder.{root_q_failed}
+use Rattle.tree_theory.proofs.QPatterns.{run_span, rear_span}
+use Rattle.tree_theory.proofs.RootTemplates.{root_q_is}
+use Rattle.tree_theory.proofs.Sound.{labels_sound, lowest_root_q}
 
 -- cut as a span
 q_of_span : (xs : List Outline) (ps : List Label) (s : Places) → IsSpanCut xs ps (Some s) → HasRootLabels (q_node (forest xs)) ps → (o : Option Outline) →
-    o ≡ at_span (forest xs) (span_seen xs ps s) → Finds (IsRootOfQ (forest xs) ps) o
+    o ≡ at_span (forest xs) (span_seen xs ps s) → FindsAny (IsRootOfQ (forest xs) ps) o
 q_of_span xs ps s cut r (Some u) e =
     let w : Span = span_seen xs ps s in
     root_q_is w.left w.tail.right w.tail.middle w.before w.tail.behind (forest xs) ps u cut (sym e)
@@ -44,9 +44,9 @@ module _ (ts : List Tree) (ls ms : List Marked) (size : length ls ≡ length ts)
   long = length-map ts outline_of ∙ sym size ∙ ap length (sym same)
 
   pub q_chosen : (s : Places) → ((xs : List Outline) → length xs ≡ length ms → IsSpanCut xs (map label_seen ms) (Some s)) → HasRootLabels (q_node (outlines ts)) (map label_seen ls) → (o : Option Outline) →
-      o ≡ at_span (outlines ts) (span_seen (map outline_of ts) (map label_seen ls) s) → Finds (IsRootOfQ (outlines ts) (map label_seen ls)) o
+      o ≡ at_span (outlines ts) (span_seen (map outline_of ts) (map label_seen ls) s) → FindsAny (IsRootOfQ (outlines ts) (map label_seen ls)) o
   q_chosen s cut r o e =
       q_of_span (map outline_of ts) (map label_seen ls) s (subst (λ l. IsSpanCut (map outline_of ts) (map label_seen l) (Some s)) same (cut (map outline_of ts) long)) r o e
 
-  pub q_unfit : ((xs : List Outline) → length xs ≡ length ms → IsSpanCut xs (map label_seen ms) None) → Finds (IsRootOfQ (outlines ts) (map label_seen ls)) None
+  pub q_unfit : ((xs : List Outline) → length xs ≡ length ms → IsSpanCut xs (map label_seen ms) None) → FindsAny (IsRootOfQ (outlines ts) (map label_seen ls)) None
   q_unfit cut = no_q (outlines ts) (map label_seen ls) (subst (λ l. IsSpanCut (map outline_of ts) (map label_seen l) None) same (cut (map outline_of ts) long))

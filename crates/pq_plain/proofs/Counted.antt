@@ -5,9 +5,9 @@ use Rattle.pq_tree.specs.Outline.{Outline, Forest, no_tree, tree_and}
 use Rattle.pq_tree.specs.Proper.{outline_of}
 use Rattle.pq_tree.specs.Forests.{forest, count, join}
 use Rattle.pq_tree.specs.declared.Tree.{Tree}
-use Rattle.template_theory.specs.Templates.{star}
-use Rattle.template_theory.specs.Labels.{Partial, Label, empty_label, full_label, partial_label, partials, empty_trees, full_trees}
-use Rattle.template_theory.proofs.Computed.{at_p, p_label}
+use Rattle.tree_theory.specs.Templates.{star}
+use Rattle.tree_theory.specs.Labels.{Partial, Label, empty_label, full_label, partial_label, partials, empty_trees, full_trees}
+use Rattle.tree_theory.proofs.Computed.{at_p, p_label}
 use Rattle.pq_plain.specs.Seen.{outlines, halves_seen, label_seen, empties, fulls}
 use Rattle.pq_plain.specs.declared.label.Halves.{Halves}
 use Rattle.pq_plain.specs.declared.label.Label.{Label as Marked}

@@ -3,19 +3,19 @@ use Rattle.std.proofs.Common.{◌≡◌, ◌∙◌, ◌≤◌, List, [], ◌∷�
 use Rattle.pq_tree.specs.Outline.{Outline, Forest, no_tree, tree_and}
 use Rattle.pq_tree.specs.Forests.{forest, back}
 use Rattle.pq_tree.proofs.Forests.{count_forest}
-use Rattle.template_theory.specs.Templates.{Partial, Label, IsRun, run_full, run_partial, run_more}
-use Rattle.template_theory.specs.Chosen.{IsLabelOfQ, q_empty, by_q1, by_q2}
-use Rattle.template_theory.specs.Labels.{partials, first_of}
+use Rattle.tree_theory.specs.Templates.{Partial, Label, IsRun, run_full, run_partial, run_more}
+use Rattle.tree_theory.specs.Chosen.{IsLabelOfQ, q_empty, by_q1, by_q2}
+use Rattle.tree_theory.specs.Labels.{partials, first_of}
 use Rattle.pq_plain.specs.Cuts.{run_label, IsRunCut, IsSpanCut}
 use Rattle.pq_plain.specs.declared.label.Run.{Run as RunPlaces}
 use Rattle.pq_plain.specs.declared.at_root.Span.{Span as Places}
-use Rattle.template_theory.proofs.Computed.{run_of, span_of, at_q}
+use Rattle.tree_theory.proofs.Computed.{run_of, span_of, at_q}
 use Rattle.pq_plain.proofs.Places.{run_seen, span_seen}
-use Rattle.template_theory.proofs.NodeTemplates.{RunLabel, run_is_full, run_is_empty, run_is_q2, some_inj, sort, run_is}
-use Rattle.template_theory.proofs.NoTemplate.{sorted_is, run_there, span_there}
-use Rattle.template_theory.proofs.Patterns.{run_all_full, run_all_empty, run_not_full, partial_not_full, run_not_empty, partial_not_empty}
-use Rattle.template_theory.proofs.QPatterns.{empty_run}
-use Rattle.template_theory.proofs.RootTemplates.{span_is}
+use Rattle.tree_theory.proofs.NodeTemplates.{RunLabel, run_is_full, run_is_empty, run_is_q2, some_inj, sort, run_is}
+use Rattle.tree_theory.proofs.NoTemplate.{sorted_is, run_there, span_there}
+use Rattle.tree_theory.proofs.Patterns.{run_all_full, run_all_empty, run_not_full, partial_not_full, run_not_empty, partial_not_empty}
+use Rattle.tree_theory.proofs.QPatterns.{empty_run}
+use Rattle.tree_theory.proofs.RootTemplates.{span_is}
 
 -- a run has at most one partial
 pub run_few : {ts es fs : Forest} {ps : List Label} {h : Option Partial} → IsRun ts ps es h fs → length (partials ps) ≤ 1

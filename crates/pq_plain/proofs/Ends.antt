@@ -8,8 +8,8 @@ use Rattle.pq_tree.specs.Outline.{Outline, q_node}
 use Rattle.pq_tree.specs.Proper.{outline_of}
 use Rattle.pq_tree.specs.Forests.{forest}
 use Rattle.pq_tree.specs.declared.Tree.{Tree}
-use Rattle.template_theory.specs.Templates.{q3}
-use Rattle.template_theory.specs.Labels.{Partial, Label, partials, first_of}
+use Rattle.tree_theory.specs.Templates.{q3}
+use Rattle.tree_theory.specs.Labels.{Partial, Label, partials, first_of}
 use Rattle.pq_plain.specs.Seen.{outlines, halves_seen}
 use Rattle.pq_plain.specs.AtRoot.{PartialsAt, q_made}
 use Rattle.pq_plain.specs.declared.label.Halves.{Halves}

@@ -1,7 +1,7 @@
 -- Lists of labels, one label more at a time.
 use Rattle.std.proofs.Common.{◌≡◌, ◌∙◌, ◌+◌, ◌<◌, ◌≤◌, ℕ, List, [], ◌∷◌, ◌++◌, map, take, drop, length, get_or, refl, sym, ap, arith}
 use Rattle.std.proofs.lemmas.List.{map_more, length-map, at_drop_more, at_drop_all}
-use Rattle.template_theory.specs.Labels.{Label, empty_label, full_label, partial_label, partials}
+use Rattle.tree_theory.specs.Labels.{Label, empty_label, full_label, partial_label, partials}
 use Rattle.pq_plain.specs.Seen.{outlines, label_seen, empties, fulls, whole_label, whole_front}
 use Rattle.pq_plain.specs.declared.label.Label.{Label as Marked}
 use Rattle.pq_plain.specs.declared.label.Label.TheVariants.{Empty, Full, Partial}

@@ -6,7 +6,7 @@ use Rattle.pq_tree.specs.Proper.{outline_of}
 use Rattle.pq_tree.specs.Forests.{forest, join}
 use Rattle.pq_tree.proofs.Forests.{join_no_tree}
 use Rattle.pq_tree.specs.declared.Tree.{Tree}
-use Rattle.template_theory.specs.Labels.{Label, empty_label, full_label, partial_label, partials, empty_trees, full_trees}
+use Rattle.tree_theory.specs.Labels.{Label, empty_label, full_label, partial_label, partials, empty_trees, full_trees}
 use Rattle.pq_plain.specs.Seen.{outlines, halves_seen, label_seen, whole_label, whole_trees}
 use Rattle.pq_plain.specs.declared.label.Halves.{Halves}
 use Rattle.pq_plain.specs.declared.label.Label.{Label as Marked}

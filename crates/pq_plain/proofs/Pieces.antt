@@ -8,8 +8,8 @@ use Rattle.pq_tree.specs.Forests.{forest, join, back}
 use Rattle.pq_tree.proofs.Forests.{join_assoc}
 use Rattle.pq_tree.specs.declared.Tree.{Tree, P, Q}
 use Rattle.pq_tree.proofs.Shown.{outline_of-P, outline_of-Q}
-use Rattle.template_theory.specs.Templates.{star, under}
-use Rattle.template_theory.specs.Labels.{Partial}
+use Rattle.tree_theory.specs.Templates.{star, under}
+use Rattle.tree_theory.specs.Labels.{Partial}
 use Rattle.pq_plain.specs.Seen.{outlines}
 use Rattle.pq_plain.proofs.Outlines.{outlines_append, outlines_reverse}
 

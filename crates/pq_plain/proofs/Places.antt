@@ -2,8 +2,8 @@
 use Rattle.std.proofs.Common.{◌-◌, List, take, drop}
 use Rattle.pq_tree.specs.Outline.{Outline}
 use Rattle.pq_tree.specs.Forests.{forest}
-use Rattle.template_theory.specs.Labels.{Label, partials}
-use Rattle.template_theory.proofs.Computed.{Run, Span}
+use Rattle.tree_theory.specs.Labels.{Label, partials}
+use Rattle.tree_theory.proofs.Computed.{Run, Span}
 use Rattle.pq_plain.specs.declared.label.Run.{Run as RunPlaces}
 use Rattle.pq_plain.specs.declared.at_root.Span.{Span as Places}
 

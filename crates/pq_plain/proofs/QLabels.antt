@@ -8,18 +8,18 @@ use Rattle.pq_tree.specs.Proper.{outline_of}
 use Rattle.pq_tree.specs.Forests.{forest, join, back}
 use Rattle.pq_tree.proofs.Forests.{forest_reverse, map-reverse}
 use Rattle.pq_tree.specs.declared.Tree.{Tree}
-use Rattle.template_theory.specs.Labels.{Partial, Label, empty_label, full_label, partial_label, partials, first_of}
-use Rattle.template_theory.proofs.Computed.{all_full, one_more, run_of, at_q, at_run, first_some, q_label}
+use Rattle.tree_theory.specs.Labels.{Partial, Label, empty_label, full_label, partial_label, partials, first_of}
+use Rattle.tree_theory.proofs.Computed.{all_full, one_more, run_of, at_q, at_run, first_some, q_label}
 use Rattle.pq_plain.specs.Seen.{outlines, halves_seen, label_seen, empties, fulls}
 use Rattle.pq_plain.specs.declared.label.Halves.{Halves}
 use Rattle.pq_plain.specs.declared.label.Label.{Label as Marked}
 use Rattle.pq_plain.specs.declared.label.Run.{Run as Places}
 use Rattle.pq_plain.proofs.Counted.{no_partial, last_of_one}
-use Rattle.template_theory.proofs.NodeTemplates.{from_front, from_rear}
+use Rattle.tree_theory.proofs.NodeTemplates.{from_front, from_rear}
 use Rattle.pq_plain.specs.Cuts.{run_label, IsRunCut, IsLabelFromEnd}
-use Rattle.template_theory.specs.Outcomes.{Finds}
-use Rattle.template_theory.specs.Chosen.{IsLabelOfQ}
-use Rattle.template_theory.specs.Templates.{IsRun}
+use Rattle.tree_theory.specs.Outcomes.{FindsAny}
+use Rattle.tree_theory.specs.Chosen.{IsLabelOfQ}
+use Rattle.tree_theory.specs.Templates.{IsRun}
 use Rattle.pq_plain.proofs.Cutting.{run_few, run_gives, no_label_from_ends}
 
 pub no_halves : (all : List Halves) (hs : List Partial) → length all ≡ 0 → map halves_seen all ≡ hs → hs ≡ []
@@ -97,7 +97,7 @@ module _ (ts : List Tree) (ls ms : List Marked) (n : length ls ≡ length ts) (s
   left_size = length-map ts outline_of ∙ sym n ∙ ap length (sym s)
 
   pub left_none : ((xs : List Outline) → length xs ≡ length ms → IsRunCut xs (map label_seen ms) None) → (o : Option Label) → IsLabelFromEnd (outlines ts) (map label_seen ls) o →
-      Finds (IsLabelOfQ (outlines ts) (map label_seen ls)) o
+      FindsAny (IsLabelOfQ (outlines ts) (map label_seen ls)) o
   left_none cut (Some x) h = h
   left_none cut None h =
       no_label_from_ends (outlines ts) (map label_seen ls) (subst (λ l. IsRunCut (map outline_of ts) (map label_seen l) None) s (cut (map outline_of ts) left_size)) h

@@ -13,19 +13,19 @@ use Rattle.row_model.proofs.Walks.{conflict_none}
 use Rattle.pq_tree.specs.Outline.{Outline, leaves}
 use Rattle.pq_tree.specs.Proper.{IsProper}
 use Rattle.pq_tree.proofs.Frontiers.{leaves_are_frontier}
-use Rattle.tied_law.specs.Tied.{IsTied}
+use Rattle.tree_theory.specs.Tied.{IsTied}
 use Rattle.column_order.proofs.Counts.{order_once}
-use Rattle.tied_law.proofs.Exact.{tied_law}
+use Rattle.tree_theory.proofs.Exact.{tied_law}
 use Rattle.pq_plain.specs.Found.{IsStep, IsFound}
-use Rattle.template_theory.specs.Refused.{IsRefused}
-use Rattle.template_theory.proofs.Finding.{replaced_node}
+use Rattle.tree_theory.specs.Refused.{IsRefused}
+use Rattle.tree_theory.proofs.Finding.{replaced_node}
 use Rattle.pq_tree.specs.Nodes.{holds}
-use Rattle.template_theory.specs.Reduced.{IsReduced, no_column, by_template}
-use Rattle.template_theory.specs.declared.reducer.Step.{Step}
-use Rattle.template_theory.specs.declared.reducer.Step.TheVariants.{Taken, Refused}
+use Rattle.tree_theory.specs.Reduced.{IsReduced, no_column, by_template}
+use Rattle.tree_theory.specs.declared.reducer.Step.{Step}
+use Rattle.tree_theory.specs.declared.reducer.Step.TheVariants.{Taken, Refused}
 use Rattle.pq_plain.specs.declared.search.Found.{Found}
 use Rattle.pq_plain.specs.declared.search.Found.TheVariants.{Columns, Root}
-use Rattle.template_theory.proofs.Steps.{row_held, kept, reduce_refused}
+use Rattle.tree_theory.proofs.Steps.{row_held, kept, reduce_refused}
 use Rattle.pq_tree.proofs.Turnings.{equivalent_refl}
 use Rattle.pq_plain.proofs.Hits.{hits_part}
 

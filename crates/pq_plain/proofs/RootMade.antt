@@ -5,9 +5,9 @@ use Rattle.pq_tree.specs.Outline.{Outline, Forest, p_node, q_node, no_tree, tree
 use Rattle.pq_tree.specs.Proper.{outline_of}
 use Rattle.pq_tree.specs.Forests.{forest, count}
 use Rattle.pq_tree.specs.declared.Tree.{Tree}
-use Rattle.template_theory.specs.Templates.{p2, q3}
-use Rattle.template_theory.specs.Labels.{Partial, partials, first_of, empty_trees, full_trees}
-use Rattle.template_theory.proofs.Computed.{root_p, root_q, at_span, p_outcome}
+use Rattle.tree_theory.specs.Templates.{p2, q3}
+use Rattle.tree_theory.specs.Labels.{Partial, partials, first_of, empty_trees, full_trees}
+use Rattle.tree_theory.proofs.Computed.{root_p, root_q, at_span, p_outcome}
 use Rattle.pq_plain.proofs.Places.{span_seen}
 use Rattle.pq_plain.specs.Seen.{outlines, label_seen}
 use Rattle.pq_plain.specs.AtRoot.{p_made, PartialsAt, q_made}

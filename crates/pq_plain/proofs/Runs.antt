@@ -4,8 +4,8 @@ use Rattle.std.proofs.lemmas.Bool.{cond-true, cond-false}
 use Rattle.std.proofs.lemmas.List.{drop-map, length-map, length-drop, take_all}
 use Rattle.pq_tree.specs.Outline.{Outline, Forest, no_tree, tree_and}
 use Rattle.pq_tree.specs.Forests.{forest}
-use Rattle.template_theory.specs.Labels.{Partial, Label, empty_label, full_label, partial_label, partials}
-use Rattle.template_theory.proofs.Computed.{all_full, one_more, run_of}
+use Rattle.tree_theory.specs.Labels.{Partial, Label, empty_label, full_label, partial_label, partials}
+use Rattle.tree_theory.proofs.Computed.{all_full, one_more, run_of}
 use Rattle.pq_plain.proofs.Places.{run_seen}
 use Rattle.pq_plain.specs.Seen.{label_seen, empty_front, full_front, cut_front}
 use Rattle.pq_plain.specs.declared.label.Label.{Label as Marked}

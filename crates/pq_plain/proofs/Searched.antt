@@ -15,14 +15,14 @@ use Rattle.pq_tree.specs.declared.Tree.{Tree, Leaf, P, Q}
 use Rattle.pq_tree.proofs.Shown.{outline_of-Leaf, outline_of-P, outline_of-Q, leaves_of-append}
 use Rattle.pq_plain.specs.Seen.{outlines}
 use Rattle.pq_plain.specs.Found.{hits, IsRootStep, IsRootReplaced, IsStep, IsStepIn, IsFound, IsFoundBelow, IsFoundIn}
-use Rattle.template_theory.specs.Outcomes.{IsLowest}
-use Rattle.template_theory.specs.Reduced.{IsRootMade, IsReplaced, replaced_here, replaced_under_p, replaced_under_q}
-use Rattle.template_theory.specs.Refused.{IsStuck, IsRefused}
+use Rattle.tree_theory.specs.Outcomes.{IsLowest}
+use Rattle.tree_theory.specs.Reduced.{IsRootMade, IsReplaced, replaced_here, replaced_under_p, replaced_under_q}
+use Rattle.tree_theory.specs.Refused.{IsStuck, IsRefused}
 use Rattle.pq_plain.proofs.TreeLabels.{node_among}
 use Rattle.pq_tree.proofs.Forests.{forest_append}
 use Rattle.pq_tree.proofs.Nodes.{node_itself}
-use Rattle.template_theory.specs.declared.reducer.Step.{Step}
-use Rattle.template_theory.specs.declared.reducer.Step.TheVariants.{Taken, Refused}
+use Rattle.tree_theory.specs.declared.reducer.Step.{Step}
+use Rattle.tree_theory.specs.declared.reducer.Step.TheVariants.{Taken, Refused}
 use Rattle.pq_plain.specs.declared.search.Found.{Found}
 use Rattle.pq_plain.specs.declared.search.Found.TheVariants.{Columns, Root}
 use Rattle.pq_plain.proofs.Hits.{hits_few, hits_all, hits_part, hits_append}

@@ -12,17 +12,17 @@ use Rattle.pq_tree.specs.Proper.{outline_of, IsTree}
 use Rattle.pq_tree.specs.declared.Tree.{Tree, Leaf, P, Q}
 use Rattle.pq_tree.proofs.Forests.{count_forest}
 use Rattle.pq_tree.proofs.Shown.{outline_of-Leaf, outline_of-P, outline_of-Q}
-use Rattle.template_theory.specs.Templates.{Label}
+use Rattle.tree_theory.specs.Templates.{Label}
 use Rattle.pq_plain.specs.Seen.{outlines, label_seen, labels_seen}
 use Rattle.pq_plain.specs.AtRoot.{outcome_seen}
-use Rattle.template_theory.specs.Reduced.{IsLabelOfLeaf, IsLabel, AreLabels}
-use Rattle.template_theory.specs.Outcomes.{IsLabelFound, AreLabelsFound, IsLowest, HasRootLabels, IsRootFound}
+use Rattle.tree_theory.specs.Reduced.{IsLabelOfLeaf, IsLabel, AreLabels}
+use Rattle.tree_theory.specs.Outcomes.{IsLabelFound, AreLabelsFound, IsLowest, HasRootLabels, IsRootFound}
 use Rattle.pq_plain.specs.declared.label.Label.{Label as Marked}
 use Rattle.pq_plain.specs.declared.at_root.Outcome.{Outcome}
-use Rattle.template_theory.proofs.Failed.{labels_long}
-use Rattle.template_theory.proofs.Finding.{p_found, q_found, p_root_found, q_root_found, leaf_in_row}
-use Rattle.template_theory.specs.Outcomes.{Finds}
-use Rattle.template_theory.specs.Chosen.{IsLabelOfP, IsLabelOfQ, IsRootOfP, IsRootOfQ}
+use Rattle.tree_theory.proofs.Failed.{labels_long}
+use Rattle.tree_theory.proofs.Finding.{p_found, q_found, p_root_found, q_root_found, leaf_in_row}
+use Rattle.tree_theory.specs.Outcomes.{FindsAny}
+use Rattle.tree_theory.specs.Chosen.{IsLabelOfP, IsLabelOfQ, IsRootOfP, IsRootOfQ}
 
 labels_size : (row : List ℕ) (xs : List Outline) (ps : List Label) → AreLabels row (forest xs) ps → length ps ≡ length xs
 labels_size row xs ps h = labels_long row (forest xs) ps h ∙ count_forest xs
@@ -98,10 +98,10 @@ module _ (row : List ℕ) (t : Tree) (v : Vec Tree Global) (ts : List Tree) (o :
     labels_are : AreLabels row (outlines us) (labels_seen w)
     labels_are = subst (λ xs. AreLabels row (outlines xs) (labels_seen w)) (s ∙ sym u) (some_labels row ts o w n h)
 
-    pub P_some : (r : Option Label) → t ≡ P v → Finds (IsLabelOfP (outlines us) (labels_seen w)) r → IsLabelFound row (outline_of t) r
+    pub P_some : (r : Option Label) → t ≡ P v → FindsAny (IsLabelOfP (outlines us) (labels_seen w)) r → IsLabelFound row (outline_of t) r
     P_some r e k = subst (λ y. IsLabelFound row y r) (sym (at_P t v us e u)) (p_found row (outlines us) (labels_seen w) r labels_are k)
 
-    pub Q_some : (r : Option Label) → t ≡ Q v → Finds (IsLabelOfQ (outlines us) (labels_seen w)) r → IsLabelFound row (outline_of t) r
+    pub Q_some : (r : Option Label) → t ≡ Q v → FindsAny (IsLabelOfQ (outlines us) (labels_seen w)) r → IsLabelFound row (outline_of t) r
     Q_some r e k = subst (λ y. IsLabelFound row y r) (sym (at_Q t v us e u)) (q_found row (outlines us) (labels_seen w) r labels_are k)
 
     -- at the pertinent root
@@ -112,13 +112,13 @@ module _ (row : List ℕ) (t : Tree) (v : Vec Tree Global) (ts : List Tree) (o :
     Q_root e tree lowest = let a : outline_of t ≡ q_node (outlines us) = at_Q t v us e u in (row, subst IsTree a tree, subst (IsLowest row) a lowest, labels_are)
 
     module _ (r : Outcome) where
-      pub root_P_some : t ≡ P v → Finds (IsRootOfP (outlines us) (labels_seen w)) (outcome_seen (p_node (outlines us)) r) → IsRootFound row (outline_of t) (outcome_seen (outline_of t) r)
+      pub root_P_some : t ≡ P v → FindsAny (IsRootOfP (outlines us) (labels_seen w)) (outcome_seen (p_node (outlines us)) r) → IsRootFound row (outline_of t) (outcome_seen (outline_of t) r)
       root_P_some e k =
           let a : outline_of t ≡ p_node (outlines us) = at_P t v us e u in
           subst (λ y. IsRootFound row y (outcome_seen y r)) (sym a)
           (p_root_found row (outlines us) (labels_seen w) (outcome_seen (p_node (outlines us)) r) labels_are k)
 
-      pub root_Q_some : t ≡ Q v → Finds (IsRootOfQ (outlines us) (labels_seen w)) (outcome_seen (q_node (outlines us)) r) → IsRootFound row (outline_of t) (outcome_seen (outline_of t) r)
+      pub root_Q_some : t ≡ Q v → FindsAny (IsRootOfQ (outlines us) (labels_seen w)) (outcome_seen (q_node (outlines us)) r) → IsRootFound row (outline_of t) (outcome_seen (outline_of t) r)
       root_Q_some e k =
           let a : outline_of t ≡ q_node (outlines us) = at_Q t v us e u in
           subst (λ y. IsRootFound row y (outcome_seen y r)) (sym a)

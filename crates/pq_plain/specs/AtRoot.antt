@@ -3,8 +3,8 @@ use Rattle.std.specs.Prelude.{◌≡◌, ◌-◌, ◌≤◌, List, [], ◌∷◌
 use Rattle.pq_tree.specs.Outline.{Outline, Forest, q_node}
 use Rattle.pq_tree.specs.Proper.{outline_of}
 use Rattle.pq_tree.specs.Forests.{forest}
-use Rattle.template_theory.specs.Templates.{p2, p4, p6, q3}
-use Rattle.template_theory.specs.Labels.{Partial, Label, partials, first_of}
+use Rattle.tree_theory.specs.Templates.{p2, p4, p6, q3}
+use Rattle.tree_theory.specs.Labels.{Partial, Label, partials, first_of}
 use Rattle.pq_plain.specs.declared.at_root.Outcome.{Outcome}
 use Rattle.pq_plain.specs.declared.at_root.Outcome.TheVariants.{Unchanged, Replaced, NoTemplate}
 use Rattle.pq_plain.specs.declared.at_root.Span.{Span}

@@ -2,9 +2,9 @@
 use Rattle.std.specs.Prelude.{◌-◌, List, take, drop, reverse, Option, Some, None}
 use Rattle.pq_tree.specs.Outline.{Outline, Forest, no_tree, tree_and}
 use Rattle.pq_tree.specs.Forests.{forest, back}
-use Rattle.template_theory.specs.Templates.{Partial, Label, empty_label, full_label, partial_label, q2, IsRun, IsTwoSidedRun}
-use Rattle.template_theory.specs.Chosen.{IsLabelOfQ}
-use Rattle.template_theory.specs.Labels.{partials, first_of}
+use Rattle.tree_theory.specs.Templates.{Partial, Label, empty_label, full_label, partial_label, q2, IsRun, IsTwoSidedRun}
+use Rattle.tree_theory.specs.Chosen.{IsLabelOfQ}
+use Rattle.tree_theory.specs.Labels.{partials, first_of}
 use Rattle.pq_plain.specs.declared.label.Run.{Run}
 use Rattle.pq_plain.specs.declared.at_root.Span.{Span}
 

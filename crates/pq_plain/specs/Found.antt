@@ -6,11 +6,11 @@ use Rattle.pq_tree.specs.Outline.{Outline, Forest, leaves, leaves_of}
 use Rattle.pq_tree.specs.Forests.{join}
 use Rattle.pq_tree.specs.Outline.{tree_and}
 use Rattle.pq_tree.specs.Nodes.{children, IsNodeOf, NoneHolds}
-use Rattle.template_theory.specs.Reduced.{IsRootMade, IsReplaced}
-use Rattle.template_theory.specs.Refused.{IsStuck, IsRefused}
-use Rattle.template_theory.specs.Outcomes.{IsLowest}
-use Rattle.template_theory.specs.declared.reducer.Step.{Step}
-use Rattle.template_theory.specs.declared.reducer.Step.TheVariants.{Taken, Refused}
+use Rattle.tree_theory.specs.Reduced.{IsRootMade, IsReplaced}
+use Rattle.tree_theory.specs.Refused.{IsStuck, IsRefused}
+use Rattle.tree_theory.specs.Outcomes.{IsLowest}
+use Rattle.tree_theory.specs.declared.reducer.Step.{Step}
+use Rattle.tree_theory.specs.declared.reducer.Step.TheVariants.{Taken, Refused}
 use Rattle.pq_plain.specs.declared.search.Found.{Found}
 use Rattle.pq_plain.specs.declared.search.Found.TheVariants.{Columns, Root}
 

@@ -7,7 +7,7 @@ use Rattle.pq_tree.specs.Outline.{Forest}
 use Rattle.pq_tree.specs.Proper.{outline_of}
 use Rattle.pq_tree.specs.Forests.{forest}
 use Rattle.pq_tree.specs.declared.Tree.{Tree}
-use Rattle.template_theory.specs.Labels.{Partial, Label, empty_label, full_label, partial_label, empty_trees, full_trees}
+use Rattle.tree_theory.specs.Labels.{Partial, Label, empty_label, full_label, partial_label, empty_trees, full_trees}
 use Rattle.pq_plain.specs.declared.label.Halves.{Halves}
 use Rattle.pq_plain.specs.declared.label.Label.{Label as Marked}
 use Rattle.pq_plain.specs.declared.label.Label.TheVariants.{Empty, Full, Partial as Cut}

@@ -4,12 +4,12 @@ ghost use Rattle.std.specs.List.Sorted.{IsNonDecreasing};
 ghost use Rattle.std.specs.Option.{option_to_list};
 ghost use Rattle.pq_tree.specs.Outline.{Outline, p_node, q_node};
 ghost use Rattle.pq_tree.specs.Proper.{outline_of, IsTree};
-ghost use Rattle.template_theory.specs.Templates.{p2, p4, p6, q3, line, line_if, under};
-ghost use Rattle.template_theory.specs.Labels.{empty_trees, full_trees, partials};
-ghost use Rattle.template_theory.specs.Chosen.{IsRootOfP, IsRootOfQ};
+ghost use Rattle.tree_theory.specs.Templates.{p2, p4, p6, q3, line, line_if, under};
+ghost use Rattle.tree_theory.specs.Labels.{empty_trees, full_trees, partials};
+ghost use Rattle.tree_theory.specs.Chosen.{IsRootOfP, IsRootOfQ};
 ghost use Rattle.pq_plain.specs.Cuts.{IsSpanCut};
-ghost use Rattle.template_theory.specs.Outcomes.{Finds};
-ghost use Rattle.template_theory.specs.Outcomes.{IsLowest, HasRootLabels, IsRootFound};
+ghost use Rattle.tree_theory.specs.Outcomes.{FindsAny};
+ghost use Rattle.tree_theory.specs.Outcomes.{IsLowest, HasRootLabels, IsRootFound};
 ghost use Rattle.pq_plain.specs.Seen.{outlines, halves_seen, label_seen, labels_seen};
 ghost use Rattle.pq_plain.specs.AtRoot.{outcome_seen, p_made, q_made, PartialsAt};
 
@@ -57,7 +57,7 @@ pub fn reduce_root(alloc: Global, row: &[u32], root: &Tree) -> Result<Outcome, N
 fn root_p(alloc: Global, children: &[Tree], labels: Vec<Label>) -> Result<Outcome, NoMemory>
     requires length { length labels.items ≡ length children.now }
     requires root { HasRootLabels (p_node (outlines children.now)) (labels_seen labels) }
-    ensures { IfOk result (λ o. Finds (IsRootOfP (outlines children.now) (labels_seen labels)) (outcome_seen (p_node (outlines children.now)) o)) }
+    ensures { IfOk result (λ o. FindsAny (IsRootOfP (outlines children.now) (labels_seen labels)) (outcome_seen (p_node (outlines children.now)) o)) }
 {
     let kinds = count_kinds(&labels);
     match (kinds.partial, kinds.empty, kinds.full) {
@@ -218,7 +218,7 @@ fn find_span(labels: &[Label]) -> Option<Span>
 fn root_q(alloc: Global, children: &[Tree], labels: Vec<Label>) -> Result<Outcome, NoMemory>
     requires length { length labels.items ≡ length children.now }
     requires root { HasRootLabels (q_node (outlines children.now)) (labels_seen labels) }
-    ensures { IfOk result (λ o. Finds (IsRootOfQ (outlines children.now) (labels_seen labels)) (outcome_seen (q_node (outlines children.now)) o)) }
+    ensures { IfOk result (λ o. FindsAny (IsRootOfQ (outlines children.now) (labels_seen labels)) (outcome_seen (q_node (outlines children.now)) o)) }
 {
     match find_span(&labels) {
         None => Ok(Outcome::NoTemplate),

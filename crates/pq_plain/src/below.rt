@@ -2,14 +2,14 @@
 ghost use Rattle.std.specs.Prelude.{◌≡◌, ◌≤◌, map, length, reverse, IfOk, option_map, Some};
 ghost use Rattle.std.specs.List.Sorted.{IsNonDecreasing};
 ghost use Rattle.pq_tree.specs.Proper.{outline_of};
-ghost use Rattle.template_theory.specs.Templates.{p3, p5, q2};
+ghost use Rattle.tree_theory.specs.Templates.{p3, p5, q2};
 ghost use Rattle.pq_tree.specs.Forests.{back};
-ghost use Rattle.template_theory.specs.Reduced.{IsLabelOfLeaf};
-ghost use Rattle.template_theory.specs.Outcomes.{IsLabelFound, AreLabelsFound};
-ghost use Rattle.template_theory.specs.Labels.{partials, first_of};
-ghost use Rattle.template_theory.specs.Chosen.{IsLabelOfP, IsLabelOfQ};
+ghost use Rattle.tree_theory.specs.Reduced.{IsLabelOfLeaf};
+ghost use Rattle.tree_theory.specs.Outcomes.{IsLabelFound, AreLabelsFound};
+ghost use Rattle.tree_theory.specs.Labels.{partials, first_of};
+ghost use Rattle.tree_theory.specs.Chosen.{IsLabelOfP, IsLabelOfQ};
 ghost use Rattle.pq_plain.specs.Cuts.{run_label, IsLabelFromEnd};
-ghost use Rattle.template_theory.specs.Outcomes.{Finds};
+ghost use Rattle.tree_theory.specs.Outcomes.{FindsAny};
 ghost use Rattle.pq_plain.specs.Seen.{outlines, halves_seen, label_seen, labels_seen};
 
 use crate::children::{back_copied, partial_children, star_of, whole_children};
@@ -101,7 +101,7 @@ fn template_p5(
 // P1, P3 and P5, `None` where none fits.
 fn label_p(alloc: Global, children: &[Tree], labels: Vec<Label>) -> Result<Option<Label>, NoMemory>
     requires { length labels.items ≡ length children.now }
-    ensures { IfOk result (λ r. Finds (IsLabelOfP (outlines children.now) (labels_seen labels)) (option_map label_seen r)) }
+    ensures { IfOk result (λ r. FindsAny (IsLabelOfP (outlines children.now) (labels_seen labels)) (option_map label_seen r)) }
 {
     let kinds = count_kinds(&labels);
     match (kinds.partial, kinds.empty, kinds.full) {
@@ -170,7 +170,7 @@ fn label_run(
 // Q1 and Q2, `None` where neither fits.
 fn label_q(alloc: Global, children: &[Tree], labels: Vec<Label>) -> Result<Option<Label>, NoMemory>
     requires { length labels.items ≡ length children.now }
-    ensures { IfOk result (λ r. Finds (IsLabelOfQ (outlines children.now) (labels_seen labels)) (option_map label_seen r)) }
+    ensures { IfOk result (λ r. FindsAny (IsLabelOfQ (outlines children.now) (labels_seen labels)) (option_map label_seen r)) }
 {
     let kinds = count_kinds(&labels);
     match (kinds.partial, kinds.empty, kinds.full) {

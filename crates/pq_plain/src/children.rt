@@ -1,8 +1,8 @@
 // The children of a node by their labels.
 ghost use Rattle.std.specs.Prelude.{◌≡◌, map, length, IfOk};
-ghost use Rattle.template_theory.specs.Templates.{star};
+ghost use Rattle.tree_theory.specs.Templates.{star};
 ghost use Rattle.pq_tree.specs.Forests.{back};
-ghost use Rattle.template_theory.specs.Labels.{partials};
+ghost use Rattle.tree_theory.specs.Labels.{partials};
 ghost use Rattle.pq_plain.specs.Seen.{outlines, halves_seen, label_seen, whole_trees};
 
 use crate::copy::{all_copied, copied};

@@ -1,7 +1,7 @@
 // Labels, and what they read as from left to right.
 ghost use Rattle.std.specs.Prelude.{◌≡◌, ◌≤◌, ◌<◌, ◌+◌, ◌-◌, ◌^◌, ◌↔◌, IsTrue, List, [], ◌∷◌, map, length, IfSome};
 ghost use Rattle.pq_tree.specs.Outline.{Outline};
-ghost use Rattle.template_theory.specs.Labels.{partials};
+ghost use Rattle.tree_theory.specs.Labels.{partials};
 ghost use Rattle.pq_plain.specs.Cuts.{IsRunCut};
 ghost use Rattle.pq_plain.specs.Seen.{label_seen, empties, fulls, whole_label, whole_front, cut_front};
 

@@ -2,14 +2,14 @@
 ghost use Rattle.std.specs.Prelude.{◌≡◌, ◌≤◌, false, [], IfOk};
 ghost use Rattle.pq_tree.specs.Proper.{outline_of, universal, IsProper};
 ghost use Rattle.pq_tree.specs.Propositions.{IsProper-prop};
-ghost use Rattle.tied_law.specs.Tied.{IsTied};
+ghost use Rattle.tree_theory.specs.Tied.{IsTied};
 
 use crate::search::{Found, reduce_tree};
 use pq_tree::{PqTree, Tree};
 use row_model::{COLUMN_BOUND, Matrix, NoMemory};
 use std::alloc::Global;
 use step_count::{Ledger, Steps};
-use template_theory::{Reducer, Step};
+use tree_theory::{Reducer, Step};
 
 /// A reducer whose tree owns its nodes. A row costs at most a few walks over the tree, which no clause says: the
 /// pertinent root, the smallest node that holds the row, is found in one walk; its new subtree is made of copies, and

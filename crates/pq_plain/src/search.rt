@@ -4,14 +4,14 @@ ghost use Rattle.std.specs.List.Sorted.{IsNonDecreasing};
 ghost use Rattle.pq_tree.specs.Proper.{outline_of, IsTree, AreTrees};
 ghost use Rattle.pq_plain.specs.Seen.{outlines};
 ghost use Rattle.pq_plain.specs.Found.{hits, IsSought, IsRootStep, IsFound, IsFoundBelow, IsFoundIn};
-ghost use Rattle.template_theory.specs.Outcomes.{IsLowest};
+ghost use Rattle.tree_theory.specs.Outcomes.{IsLowest};
 
 use crate::at_root::{Outcome, reduce_root};
 use pq_tree::Tree;
 use row_model::{NoMemory, row_has};
 use std::alloc::Global;
 use std::mem;
-use template_theory::Step;
+use tree_theory::Step;
 
 // What a search for the pertinent root found in a tree.
 #[derive(Drop)]

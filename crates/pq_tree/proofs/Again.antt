@@ -18,6 +18,7 @@ use Rattle.pq_tree.proofs.Shown.{leaves_of-append}
 use Rattle.pq_tree.proofs.Universal.{columns_order}
 use Rattle.pq_tree.proofs.Runs.{run_on}
 use Rattle.pq_tree.proofs.Found.{within, within_one, within_none, st}
+use Rattle.pq_tree.proofs.Forests.{leaves_some}
 
 within_le : (c a : ℕ) → within c a ≤ 1
 within_le c a = elim (leb 1 a && leb a c) as (λ b. cond {A = ℕ} b 1 0 ≤ 1) [ true ↦ omega arith | false ↦ omega arith ]
@@ -35,15 +36,6 @@ few c xs h =
     let all : IsOrder c (columns c) = columns_order c in
     let inside : IsWithin c xs = λ a k. in_range c a (omega (arith, h a, occurs_from_has xs a k)) in
     omega (arith, length_le c xs inside (columns c) (order_within c (columns c) all) (λ a. omega (arith, h a, all a)), order_length c (columns c) all)
-
--- every tree has a column
-mutual
-  leaves_some : (t : Outline) → HasArities t → 1 ≤ length (leaves t)
-  leaves_some (leaf a) h = omega arith
-  leaves_some (p_node no_tree) h = absurd (omega (arith, h.0))
-  leaves_some (p_node (tree_and t ts)) h = omega (arith, length-append (leaves t) (leaves_of ts), leaves_some t h.1.0)
-  leaves_some (q_node no_tree) h = absurd (omega (arith, h.0))
-  leaves_some (q_node (tree_and t ts)) h = omega (arith, length-append (leaves t) (leaves_of ts), leaves_some t h.1.0)
 
 -- each tree has at most so many columns
 AreSmall : ℕ → Forest → Type 0

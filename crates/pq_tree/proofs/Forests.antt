@@ -1,6 +1,6 @@
 -- Joined and reversed lists of trees: their columns, their number and the children of their nodes.
 use Rattle.std.proofs.Common.{◌≡◌, ◌⊎◌, ◌∙◌, ◌+◌, ◌≤◌, ℕ, List, [], ◌∷◌, ◌++◌, map, reverse, length, IsTrue, refl, sym, ap, arith, append_assoc}
-use Rattle.std.proofs.lemmas.List.{map-append, reverse-append}
+use Rattle.std.proofs.lemmas.List.{map-append, reverse-append, length-append}
 use Rattle.column_order.specs.Orders.{has, occurs}
 use Rattle.column_order.proofs.Lists.{has_head, has_append_cases, has_append_left, has_append_right, has_same, occurs-append}
 use Rattle.pq_tree.specs.Outline.{Outline, Forest, leaf, p_node, q_node, no_tree, tree_and, leaves, leaves_of}
@@ -113,3 +113,14 @@ mutual
   some_leaf_of (tree_and t ts) n h =
       let k : (a : ℕ) × IsTrue (has (leaves t) a) = some_leaf t h.0 in
       (k.0, has_append_left (leaves t) (leaves_of ts) k.0 k.1)
+
+-- proper trees have leaves
+mutual
+  pub leaves_some : (t : Outline) → HasArities t → 1 ≤ length (leaves t)
+  leaves_some (leaf a) h = omega arith
+  leaves_some (p_node ts) h = omega (arith, leaves_count ts h.1, h.0)
+  leaves_some (q_node ts) h = omega (arith, leaves_count ts h.1, h.0)
+
+  pub leaves_count : (ts : Forest) → HaveArities ts → count ts ≤ length (leaves_of ts)
+  leaves_count no_tree h = omega arith
+  leaves_count (tree_and t ts) h = omega (arith, leaves_some t h.0, leaves_count ts h.1, length-append (leaves t) (leaves_of ts))

@@ -1,5 +1,5 @@
 -- What the outline of a tree is at each of its cases.
-use Rattle.std.proofs.Common.{◌≡◌, ◌∙◌, ◌+◌, ◌<◌, ℕ, ◌⊎◌, inl, inr, ◌≤◌, List, [], ◌∷◌, ◌++◌, map, refl, sym, ap, take, length, get_or, suc, add-one}
+use Rattle.std.proofs.Common.{◌≡◌, ◌∙◌, ◌+◌, ◌<◌, ℕ, ◌⊎◌, inl, inr, ◌≤◌, List, [], ◌∷◌, ◌++◌, map, refl, sym, ap, take, drop, drop-cons, length, get_or, suc, add-one}
 use Rattle.std.proofs.lemmas.List.{map-append, map_more, append_assoc, append-nil, take_all}
 use Rattle.std.specs.declared.vec.Vec.{Vec}
 use Rattle.std.specs.declared.alloc.Global.{Global}
@@ -59,3 +59,17 @@ push_all old cols ts i t v h s l e = rw (leaves_of_node t v h, ← s) (rw (take_
 pub leaf_more : (ts new : List Tree) (i : ℕ) → map outline_of ts ≡ map leaf (columns i) → new ≡ ts ++ Leaf (i + 1) ∷ [] → map outline_of new ≡ map leaf (columns (i + 1))
 leaf_more ts new i e k =
     rw (k, map-append outline_of ts (Leaf (i + 1) ∷ []), outline_of-Leaf (i + 1), e, add-one, map-append leaf (columns i) (suc i ∷ [])) refl
+
+-- the outline of a node over its children
+pub outline_p : (t : Tree) (v : Vec Tree Global) (ts : List Tree) → t ≡ P v → ts ≡ v.items → outline_of t ≡ p_node (forest (map outline_of ts))
+outline_p t v ts e s = ap outline_of e ∙ outline_of-P v ∙ ap (λ x. p_node (forest (map outline_of x))) (sym s)
+
+pub outline_q : (t : Tree) (v : Vec Tree Global) (ts : List Tree) → t ≡ Q v → ts ≡ v.items → outline_of t ≡ q_node (forest (map outline_of ts))
+outline_q t v ts e s = ap outline_of e ∙ outline_of-Q v ∙ ap (λ x. q_node (forest (map outline_of x))) (sym s)
+
+-- the children from an index on are the child there and the others
+pub rest_at : (ts : List Tree) (i : ℕ) (t : Tree) → i < length ts → t ≡ get_or ts i t → forest (map outline_of (drop i ts)) ≡ tree_and (outline_of t) (forest (map outline_of (drop (i + 1) ts)))
+rest_at ts i t l e =
+    ap (λ x. forest (map outline_of x)) (drop-cons ts i t l) ∙
+    ap (λ x. tree_and (outline_of x) (forest (map outline_of (drop (suc i) ts)))) (sym e) ∙
+    ap (λ k. tree_and (outline_of t) (forest (map outline_of (drop k ts)))) (sym (add-one i))

@@ -2,7 +2,7 @@
 use Rattle.std.specs.Prelude.{◌≡◌, ℕ}
 use Rattle.row_model.specs.Rows.{RowList}
 use Rattle.pq_tree.specs.Outline.{Outline}
-use Rattle.tied_law.specs.Tied.{IsTied}
+use Rattle.tree_theory.specs.Tied.{IsTied}
 
 -- a reducer's columns are the matrix's, and its tree is tied to all rows of the matrix
 pub record Follows (m : RowList) (width : ℕ) (outline : Outline) : Type 0 where

@@ -5,9 +5,9 @@ use Rattle.std.proofs.lemmas.Bool.{cases_lt}
 use Rattle.column_order.specs.Orders.{occurs}
 use Rattle.pq_tree.specs.Outline.{Outline, Forest, p_node, q_node, tree_and}
 use Rattle.pq_tree.specs.Forests.{forest}
-use Rattle.template_theory.specs.Templates.{Partial, Label, empty_label, full_label, partial_label, AreAllFull}
-use Rattle.template_theory.specs.Chosen.{IsLabelOfP, IsLabelOfQ, by_p1, by_p3, by_p5, by_q1, by_q2}
-use Rattle.template_theory.specs.Reduced.{IsLabel, AreLabels, IsTurned}
+use Rattle.tree_theory.specs.Templates.{Partial, Label, empty_label, full_label, partial_label, AreAllFull}
+use Rattle.tree_theory.specs.Chosen.{IsLabelOfP, IsLabelOfQ, by_p1, by_p3, by_p5, by_q1, by_q2}
+use Rattle.tree_theory.specs.Reduced.{IsLabel, AreLabels, IsTurned}
 use Rattle.arena_model.specs.declared.Shape.TheVariants.{Leaf, P, Q}
 use Rattle.arena_model.specs.Layout.{Slot, Layout, slot, shape_at, children_at, IsLayout, IsInUse, IsAtOrAbove}
 use Rattle.arena_model.specs.NamedTree.{IsAt, outline_below, HasTwoEach}

@@ -3,7 +3,7 @@ use Rattle.std.proofs.Common.{◌≡◌, ◌≢◌, inl, inr, ℕ, ◌+◌, ◌*
 use Rattle.std.proofs.lemmas.Bool.{cases_eq, cases_lt}
 use Rattle.column_order.specs.Orders.{occurs}
 use Rattle.pq_tree.specs.Forests.{forest}
-use Rattle.template_theory.specs.Templates.{Label, empty_label}
+use Rattle.tree_theory.specs.Templates.{Label, empty_label}
 use Rattle.arena_model.specs.ChildLists.{none}
 use Rattle.arena_model.specs.Layout.{Layout, shape_at, children_at, IsLayout, IsAtOrAbove}
 use Rattle.arena_model.specs.NamedTree.{outline_below}

@@ -10,11 +10,11 @@ use Rattle.pq_tree.specs.Outline.{Outline, Forest}
 use Rattle.pq_tree.specs.Forests.{forest, back}
 use Rattle.pq_tree.specs.Nodes.{IsPertinentRoot}
 use Rattle.pq_tree.proofs.Forests.{map-reverse}
-use Rattle.template_theory.specs.Templates.{Partial, Label, AreAllFull, IsRun, run_full, run_partial, run_more, IsQ3}
-use Rattle.template_theory.specs.Chosen.{IsRootOfQ, root_q1, root_q2, root_q3}
-use Rattle.template_theory.specs.Refused.{IsRefused, IsUnfitRoot}
-use Rattle.template_theory.specs.Reduced.{IsRootMade, IsReduced}
-use Rattle.template_theory.specs.Laws.{RootTurnedLaw}
+use Rattle.tree_theory.specs.Templates.{Partial, Label, AreAllFull, IsRun, run_full, run_partial, run_more, IsQ3}
+use Rattle.tree_theory.specs.Chosen.{IsRootOfQ, root_q1, root_q2, root_q3}
+use Rattle.tree_theory.specs.Refused.{IsRefused, IsUnfitRoot}
+use Rattle.tree_theory.specs.Reduced.{IsRootMade, IsReduced}
+use Rattle.tree_theory.specs.Laws.{RootTurnedLaw}
 use Rattle.arena_model.specs.Layout.{Layout, children_at, IsLayout, here, down}
 use Rattle.arena_model.specs.NamedTree.{outline_below, outline_at}
 use Rattle.arena_model.proofs.Lists.{occurs_here}

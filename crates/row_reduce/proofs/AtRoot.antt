@@ -4,9 +4,9 @@ use Rattle.std.proofs.lemmas.Bool.{cases_eq, cases_lt, ne_eqb}
 use Rattle.column_order.specs.Orders.{occurs}
 use Rattle.pq_tree.specs.Forests.{forest}
 use Rattle.pq_tree.specs.Nodes.{IsPertinentRoot}
-use Rattle.template_theory.specs.Reduced.{IsReduced}
-use Rattle.template_theory.specs.Refused.{IsRefused, IsStuck, IsUnfitRoot}
-use Rattle.template_theory.specs.Laws.{RootTurnedLaw}
+use Rattle.tree_theory.specs.Reduced.{IsReduced}
+use Rattle.tree_theory.specs.Refused.{IsRefused, IsStuck, IsUnfitRoot}
+use Rattle.tree_theory.specs.Laws.{RootTurnedLaw}
 use Rattle.arena_model.specs.ChildLists.{with_replaced}
 use Rattle.arena_model.specs.Layout.{Layout, children_at, IsInUse, IsLayout, IsAtOrAbove, here}
 use Rattle.arena_model.specs.NamedTree.{outline_below, outline_at}

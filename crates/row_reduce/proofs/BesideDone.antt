@@ -10,11 +10,11 @@ use Rattle.row_model.proofs.Ascending.{row_within}
 use Rattle.pq_tree.specs.Amortised.{nodes_met, nodes_met_below_root}
 use Rattle.pq_tree.specs.Outline.{Outline, q_node}
 use Rattle.pq_tree.specs.Nodes.{IsPertinentRoot}
-use Rattle.template_theory.specs.Laws.{RootTurnedLaw}
-use Rattle.template_theory.specs.Templates.{Partial, Label, empty_label, full_label, partial_label, p3, q3}
-use Rattle.template_theory.specs.Chosen.{IsRootOfQ}
-use Rattle.template_theory.specs.Reduced.{IsLabel, AreLabels, IsRootMade, IsReduced}
-use Rattle.template_theory.specs.declared.reducer.Step.TheVariants.{Taken}
+use Rattle.tree_theory.specs.Laws.{RootTurnedLaw}
+use Rattle.tree_theory.specs.Templates.{Partial, Label, empty_label, full_label, partial_label, p3, q3}
+use Rattle.tree_theory.specs.Chosen.{IsRootOfQ}
+use Rattle.tree_theory.specs.Reduced.{IsLabel, AreLabels, IsRootMade, IsReduced}
+use Rattle.tree_theory.specs.declared.reducer.Step.TheVariants.{Taken}
 use Rattle.arena_model.specs.declared.Shape.TheVariants.{Q}
 use Rattle.arena_model.specs.Layout.{Layout, children_at, IsInUse, IsLayout, IsAtOrAbove, here, down}
 use Rattle.arena_model.specs.NamedTree.{outline_below, outline_at, HasTwoEach}

@@ -11,10 +11,10 @@ use Rattle.pq_tree.specs.Amortised.{nodes_met, nodes_met_below_root}
 use Rattle.pq_tree.specs.Outline.{Forest, q_node}
 use Rattle.pq_tree.specs.Nodes.{IsPertinentRoot}
 use Rattle.pq_tree.specs.Equivalent.{AreEquivalent}
-use Rattle.template_theory.specs.Laws.{RootTurnedLaw}
-use Rattle.template_theory.specs.Templates.{Partial, empty_label, full_label, partial_label, star, p3, q3}
-use Rattle.template_theory.specs.Reduced.{IsLabel, IsRootMade, IsReduced}
-use Rattle.template_theory.specs.declared.reducer.Step.TheVariants.{Taken}
+use Rattle.tree_theory.specs.Laws.{RootTurnedLaw}
+use Rattle.tree_theory.specs.Templates.{Partial, empty_label, full_label, partial_label, star, p3, q3}
+use Rattle.tree_theory.specs.Reduced.{IsLabel, IsRootMade, IsReduced}
+use Rattle.tree_theory.specs.declared.reducer.Step.TheVariants.{Taken}
 use Rattle.arena_model.specs.declared.Shape.TheVariants.{Q}
 use Rattle.arena_model.specs.ChildLists.{head_or, last_or, none}
 use Rattle.arena_model.specs.Layout.{Layout, shape_at, children_at, IsInUse, IsLayout, IsAtOrAbove, here, down}

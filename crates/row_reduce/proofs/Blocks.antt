@@ -4,10 +4,10 @@ use Rattle.std.proofs.Common.{ℕ, ◌≤◌, List, [], ◌∷◌, ◌++◌, map
 use Rattle.column_order.specs.Orders.{occurs}
 use Rattle.pq_tree.specs.Outline.{Outline, Forest, q_node}
 use Rattle.pq_tree.specs.Forests.{forest}
-use Rattle.template_theory.specs.Templates.{Partial, Label, empty_label, full_label, partial_label, q3, none_sorted, to_empty, to_full, AreAllFull, AreAllEmpty, IsTail, tail_empty, tail_partial, tail_more, IsTwoSidedRun, span_tail, span_partial, span_more}
-use Rattle.template_theory.specs.Chosen.{IsRootOfQ}
-use Rattle.template_theory.specs.Reduced.{IsLabel, AreLabels}
-use Rattle.template_theory.proofs.RootTemplates.{root_q_is}
+use Rattle.tree_theory.specs.Templates.{Partial, Label, empty_label, full_label, partial_label, q3, none_sorted, to_empty, to_full, AreAllFull, AreAllEmpty, IsTail, tail_empty, tail_partial, tail_more, IsTwoSidedRun, span_tail, span_partial, span_more}
+use Rattle.tree_theory.specs.Chosen.{IsRootOfQ}
+use Rattle.tree_theory.specs.Reduced.{IsLabel, AreLabels}
+use Rattle.tree_theory.proofs.RootTemplates.{root_q_is}
 use Rattle.arena_model.proofs.Lists.{occurs_here}
 
 -- the trees of these nodes

@@ -7,7 +7,7 @@ use Rattle.pq_tree.specs.Forests.{forest, join, back}
 use Rattle.pq_tree.specs.Equivalent.{IsEquivalent, AreEquivalent}
 use Rattle.pq_tree.proofs.Forests.{join_assoc, back-join}
 use Rattle.pq_tree.proofs.Turnings.{equivalent_refl}
-use Rattle.template_theory.specs.Templates.{star, p3, q3}
+use Rattle.tree_theory.specs.Templates.{star, p3, q3}
 use Rattle.arena_model.specs.declared.Shape.TheVariants.{Q}
 use Rattle.arena_model.specs.ChildLists.{head_or, last_or, none}
 use Rattle.arena_model.specs.Layout.{Slot, Layout, shape_at, children_at, IsLayout, IsAtOrAbove}

@@ -7,7 +7,7 @@ use Rattle.column_order.proofs.Lists.{occurs-append}
 use Rattle.pq_tree.specs.Outline.{Outline, Forest, p_node, q_node, tree_and}
 use Rattle.pq_tree.specs.Forests.{forest, join}
 use Rattle.pq_tree.proofs.Forests.{forest_append}
-use Rattle.template_theory.specs.Reduced.{IsReplaced, replaced_here, replaced_under_p, replaced_under_q}
+use Rattle.tree_theory.specs.Reduced.{IsReplaced, replaced_here, replaced_under_p, replaced_under_q}
 use Rattle.arena_model.specs.ChildLists.{with_replaced}
 use Rattle.arena_model.specs.declared.Shape.{Shape}
 use Rattle.arena_model.specs.declared.Shape.TheVariants.{Leaf, P, Q}

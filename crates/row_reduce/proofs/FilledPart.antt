@@ -5,9 +5,9 @@ use Rattle.column_order.specs.Orders.{has, occurs}
 use Rattle.column_order.proofs.Lists.{has_from_occurs, occurs_from_has}
 use Rattle.pq_tree.specs.Outline.{Outline, Forest, no_tree, tree_and}
 use Rattle.pq_tree.specs.Forests.{forest, count}
-use Rattle.template_theory.specs.Templates.{Label, empty_label, full_label, partial_label, IsSorted, none_sorted, to_empty, to_full, IsP3, p3}
-use Rattle.template_theory.specs.Chosen.{by_p3}
-use Rattle.template_theory.specs.Reduced.{IsLabel, AreLabels}
+use Rattle.tree_theory.specs.Templates.{Label, empty_label, full_label, partial_label, IsSorted, none_sorted, to_empty, to_full, IsP3, p3}
+use Rattle.tree_theory.specs.Chosen.{by_p3}
+use Rattle.tree_theory.specs.Reduced.{IsLabel, AreLabels}
 use Rattle.arena_model.specs.declared.Shape.TheVariants.{P}
 use Rattle.arena_model.specs.Layout.{Layout, children_at, IsInUse, IsAtOrAbove, here, down}
 use Rattle.arena_model.specs.NamedTree.{outline_below}

@@ -3,11 +3,11 @@ use Rattle.std.proofs.Common.{◌≡◌, ℕ, ◌+◌, ◌*◌, ◌≤◌, List,
 use Rattle.pq_tree.specs.Outline.{Outline}
 use Rattle.pq_tree.specs.Proper.{IsTree}
 use Rattle.pq_tree.specs.Amortised.{nodes_met, nodes_met_below_root}
-use Rattle.template_theory.specs.Reduced.{IsReduced}
-use Rattle.template_theory.specs.Frugal.{IsFrugal}
-use Rattle.template_theory.specs.declared.reducer.Step.{Step}
-use Rattle.template_theory.specs.declared.reducer.Step.TheVariants.{Taken, Refused}
-use Rattle.template_theory.specs.WeightLaws.{TakenStepsLaw, RefusedStepsLaw}
+use Rattle.tree_theory.specs.Reduced.{IsReduced}
+use Rattle.tree_theory.specs.Frugal.{IsFrugal}
+use Rattle.tree_theory.specs.declared.reducer.Step.{Step}
+use Rattle.tree_theory.specs.declared.reducer.Step.TheVariants.{Taken, Refused}
+use Rattle.tree_theory.specs.WeightLaws.{TakenStepsLaw, RefusedStepsLaw}
 
 pub row_frugal : TakenStepsLaw → RefusedStepsLaw → (row : List ℕ) (t u : Outline) (s n : ℕ) (step : Step) → IsTree t → (step ≡ Taken → IsReduced row t u) → n ≤ s + 256 * (nodes_met row t + 1) →
     (step ≡ Taken → n ≤ s + 4 * length row + 252 * (nodes_met_below_root row t + 1)) → IsFrugal row t u s n step

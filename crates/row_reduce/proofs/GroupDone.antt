@@ -6,11 +6,11 @@ use Rattle.row_model.specs.Graph.{row_at}
 use Rattle.pq_tree.specs.Amortised.{nodes_met, nodes_met_below_root}
 use Rattle.pq_tree.specs.Outline.{Outline}
 use Rattle.pq_tree.specs.Nodes.{IsPertinentRoot}
-use Rattle.template_theory.specs.Laws.{RootTurnedLaw}
-use Rattle.template_theory.specs.Templates.{IsP2}
-use Rattle.template_theory.specs.Chosen.{root_p2}
-use Rattle.template_theory.specs.Reduced.{IsRootMade, IsReduced}
-use Rattle.template_theory.specs.declared.reducer.Step.TheVariants.{Taken}
+use Rattle.tree_theory.specs.Laws.{RootTurnedLaw}
+use Rattle.tree_theory.specs.Templates.{IsP2}
+use Rattle.tree_theory.specs.Chosen.{root_p2}
+use Rattle.tree_theory.specs.Reduced.{IsRootMade, IsReduced}
+use Rattle.tree_theory.specs.declared.reducer.Step.TheVariants.{Taken}
 use Rattle.arena_model.specs.declared.Shape.TheVariants.{P}
 use Rattle.arena_model.specs.Layout.{Layout, children_at, IsLayout, here, down}
 use Rattle.arena_model.specs.NamedTree.{outline_below, outline_at, HasTwoEach}

@@ -2,8 +2,8 @@
 use Rattle.std.proofs.Common.{◌≡◌, ◌≢◌, inl, inr, ℕ, ◌≤◌, cond, eqb, List, refl, sym, ap, subst, ◌∙◌, arith}
 use Rattle.std.proofs.lemmas.Bool.{cases_eq, cases_lt, ne_eqb}
 use Rattle.column_order.specs.Orders.{occurs}
-use Rattle.template_theory.specs.declared.reducer.Step.{Step}
-use Rattle.template_theory.specs.declared.reducer.Step.TheVariants.{Taken, Refused}
+use Rattle.tree_theory.specs.declared.reducer.Step.{Step}
+use Rattle.tree_theory.specs.declared.reducer.Step.TheVariants.{Taken, Refused}
 use Rattle.arena_model.specs.Layout.{Layout, children_at, IsLayout, IsAtOrAbove, here, down}
 use Rattle.arena_model.specs.RowLeaves.{Holds}
 use Rattle.arena_model.proofs.Lists.{replaced_none}

@@ -8,10 +8,10 @@ use Rattle.pq_tree.specs.Outline.{Outline, q_node}
 use Rattle.pq_tree.specs.Forests.{forest}
 use Rattle.pq_tree.specs.Nodes.{IsPertinentRoot}
 use Rattle.pq_tree.proofs.Turnings.{equivalent_refl}
-use Rattle.template_theory.specs.Laws.{RootTurnedLaw}
-use Rattle.template_theory.specs.Templates.{empty_label, full_label}
-use Rattle.template_theory.specs.Chosen.{by_p1, by_q1, IsRootOfQ, root_p1, root_q1}
-use Rattle.template_theory.specs.Reduced.{IsLabel, AreLabels, IsRootMade, IsReduced, no_column, by_template}
+use Rattle.tree_theory.specs.Laws.{RootTurnedLaw}
+use Rattle.tree_theory.specs.Templates.{empty_label, full_label}
+use Rattle.tree_theory.specs.Chosen.{by_p1, by_q1, IsRootOfQ, root_p1, root_q1}
+use Rattle.tree_theory.specs.Reduced.{IsLabel, AreLabels, IsRootMade, IsReduced, no_column, by_template}
 use Rattle.arena_model.specs.declared.Shape.{Shape}
 use Rattle.arena_model.specs.declared.Shape.TheVariants.{Leaf, P, Q}
 use Rattle.arena_model.specs.Layout.{Layout, shape_at, children_at, times_child, IsGrounded, grounded, IsInUse, IsLayout, MayHaveChildren, IsAtOrAbove, here, down}

@@ -5,10 +5,10 @@ use Rattle.row_model.specs.Rows.{IsRow}
 use Rattle.pq_tree.specs.Outline.{Outline, Forest, leaf, p_node, q_node, no_tree, tree_and}
 use Rattle.pq_tree.specs.Forests.{forest}
 use Rattle.pq_tree.proofs.Turnings.{are_equivalent_refl}
-use Rattle.template_theory.specs.Templates.{Partial, Label, empty_label, full_label, partial_label, IsP3, IsP5, IsQ2, AreAllFull, AreAllEmpty}
-use Rattle.template_theory.specs.Chosen.{IsLabelOfP, IsLabelOfQ, p_empty, by_p1, by_p3, by_p5, q_empty, by_q1, by_q2, IsRootOfP, IsRootOfQ, root_p1, root_p2, root_p4, root_p6, root_q1, root_q2, root_q3}
-use Rattle.template_theory.specs.Reduced.{IsLabel, AreLabels, IsTurned}
-use Rattle.template_theory.specs.Refused.{IsUnfit, IsUnfitRoot}
+use Rattle.tree_theory.specs.Templates.{Partial, Label, empty_label, full_label, partial_label, IsP3, IsP5, IsQ2, AreAllFull, AreAllEmpty}
+use Rattle.tree_theory.specs.Chosen.{IsLabelOfP, IsLabelOfQ, p_empty, by_p1, by_p3, by_p5, q_empty, by_q1, by_q2, IsRootOfP, IsRootOfQ, root_p1, root_p2, root_p4, root_p6, root_q1, root_q2, root_q3}
+use Rattle.tree_theory.specs.Reduced.{IsLabel, AreLabels, IsTurned}
+use Rattle.tree_theory.specs.Refused.{IsUnfit, IsUnfitRoot}
 use Rattle.arena_model.specs.declared.Shape.{Shape}
 use Rattle.arena_model.specs.declared.Shape.TheVariants.{Leaf, P, Q}
 use Rattle.arena_model.specs.Layout.{Layout, shape_at, children_at, IsLayout, MayHaveChildren, IsInUse, IsAtOrAbove}

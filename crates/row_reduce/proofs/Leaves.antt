@@ -6,9 +6,9 @@ use Rattle.column_order.proofs.Lists.{lacks_from_occurs, occurs-append}
 use Rattle.row_model.specs.Rows.{IsRow}
 use Rattle.row_model.proofs.Ascending.{row_within}
 use Rattle.pq_tree.specs.Outline.{Forest}
-use Rattle.template_theory.specs.Templates.{Label, empty_label, AreAllEmpty, none_sorted, to_empty}
-use Rattle.template_theory.specs.Chosen.{p_empty, q_empty}
-use Rattle.template_theory.specs.Reduced.{IsLabel, AreLabels}
+use Rattle.tree_theory.specs.Templates.{Label, empty_label, AreAllEmpty, none_sorted, to_empty}
+use Rattle.tree_theory.specs.Chosen.{p_empty, q_empty}
+use Rattle.tree_theory.specs.Reduced.{IsLabel, AreLabels}
 use Rattle.arena_model.specs.declared.Shape.{Shape}
 use Rattle.arena_model.specs.declared.Shape.TheVariants.{Leaf, P, Q}
 use Rattle.arena_model.specs.Layout.{Layout, shape_at, children_at, IsGrounded, grounded, IsInUse, IsLayout, IsAtOrAbove, here, down}

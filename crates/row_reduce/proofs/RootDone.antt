@@ -1,7 +1,7 @@
 -- The row where the pertinent root is known.
 use Rattle.std.proofs.Common.{◌≡◌, ℕ, ◌+◌, ◌-◌, ◌*◌, ◌≤◌, true, List, length, take, sum_by, Some, sym, ap, subst, ◌∙◌, arith}
-use Rattle.template_theory.specs.Laws.{RootTurnedLaw}
-use Rattle.template_theory.specs.declared.reducer.Step.TheVariants.{Taken}
+use Rattle.tree_theory.specs.Laws.{RootTurnedLaw}
+use Rattle.tree_theory.specs.declared.reducer.Step.TheVariants.{Taken}
 use Rattle.arena_model.specs.Layout.{Layout, IsLayout}
 use Rattle.pq_arena.specs.declared.node.NodeId.{NodeId}
 use Rattle.pq_arena.specs.RowNodes.{column_leaves, indices}

@@ -8,9 +8,9 @@ use Rattle.pq_tree.specs.Forests.{forest, trees, join, back}
 use Rattle.pq_tree.specs.Equivalent.{IsEquivalent, AreEquivalent}
 use Rattle.pq_tree.proofs.Forests.{forest-trees, forest_append, forest_reverse, map-reverse}
 use Rattle.pq_tree.proofs.Turnings.{equivalent_refl}
-use Rattle.template_theory.specs.Templates.{Partial, Label, partial_label, line}
-use Rattle.template_theory.specs.Chosen.{IsRootOfP, IsRootOfQ, root_p1, root_p2, root_p4, root_p6, root_q1, root_q2, root_q3}
-use Rattle.template_theory.specs.Reduced.{AreLabels, IsTurned, IsRootMade}
+use Rattle.tree_theory.specs.Templates.{Partial, Label, partial_label, line}
+use Rattle.tree_theory.specs.Chosen.{IsRootOfP, IsRootOfQ, root_p1, root_p2, root_p4, root_p6, root_q1, root_q2, root_q3}
+use Rattle.tree_theory.specs.Reduced.{AreLabels, IsTurned, IsRootMade}
 use Rattle.arena_model.specs.declared.Shape.TheVariants.{Leaf, P, Q}
 use Rattle.arena_model.specs.Layout.{Layout, shape_at, IsLayout}
 use Rattle.arena_model.specs.NamedTree.{outline_below}

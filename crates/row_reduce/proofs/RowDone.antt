@@ -13,8 +13,8 @@ use Rattle.pq_tree.specs.Outline.{Outline, leaves}
 use Rattle.pq_tree.proofs.Nodes.{holds_above, pertinent_root_is, pertinent_root_unique}
 use Rattle.pq_tree.specs.Proper.{IsProper}
 use Rattle.pq_tree.proofs.Turnings.{equivalent_refl}
-use Rattle.template_theory.specs.Reduced.{no_column}
-use Rattle.template_theory.specs.declared.reducer.Step.TheVariants.{Taken}
+use Rattle.tree_theory.specs.Reduced.{no_column}
+use Rattle.tree_theory.specs.declared.reducer.Step.TheVariants.{Taken}
 use Rattle.arena_model.specs.Layout.{Layout, IsLayout, IsInUse}
 use Rattle.arena_model.specs.NamedTree.{HasTwoEach, outline_at, outline_below}
 use Rattle.arena_model.proofs.Lists.{few_once, occurs_here}

@@ -8,7 +8,7 @@ use Rattle.pq_tree.specs.Nodes.{pertinent_root}
 use Rattle.pq_tree.specs.Outline.{Outline, Forest, leaf, p_node, q_node, no_tree, tree_and, leaves, leaves_of}
 use Rattle.pq_tree.specs.Proper.{IsProper}
 use Rattle.pq_tree.proofs.Nodes.{holds_each, pertinent_root_is}
-use Rattle.template_theory.proofs.Steps.{row_held}
+use Rattle.tree_theory.proofs.Steps.{row_held}
 use Rattle.row_model.specs.Rows.{IsRow}
 use Rattle.row_model.proofs.Ascending.{row_once, row_within}
 use Rattle.arena_model.specs.declared.Shape.TheVariants.{Leaf}

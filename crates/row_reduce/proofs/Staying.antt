@@ -1,11 +1,11 @@
 -- What the reducer keeps over a row.
 use Rattle.std.proofs.Common.{◌≡◌, ℕ, ◌+◌, ◌*◌, List, length, sym, ap, subst, ◌∙◌, arith}
 use Rattle.pq_tree.specs.Proper.{universal, IsProper}
-use Rattle.template_theory.specs.Laws.{KeptLaw}
-use Rattle.template_theory.specs.Reduced.{IsReduced}
-use Rattle.template_theory.specs.Refused.{IsRefused}
-use Rattle.template_theory.specs.declared.reducer.Step.{Step}
-use Rattle.template_theory.specs.declared.reducer.Step.TheVariants.{Taken, Refused}
+use Rattle.tree_theory.specs.Laws.{KeptLaw}
+use Rattle.tree_theory.specs.Reduced.{IsReduced}
+use Rattle.tree_theory.specs.Refused.{IsRefused}
+use Rattle.tree_theory.specs.declared.reducer.Step.{Step}
+use Rattle.tree_theory.specs.declared.reducer.Step.TheVariants.{Taken, Refused}
 use Rattle.arena_model.specs.Layout.{Layout, IsLayout}
 use Rattle.arena_model.specs.NamedTree.{IsOneTree, outline_at}
 use Rattle.row_reduce.specs.Outcome.{IsOutcome}

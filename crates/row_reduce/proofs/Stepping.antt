@@ -5,7 +5,7 @@ use Rattle.column_order.specs.Orders.{occurs}
 use Rattle.column_order.proofs.Lists.{occurs-append}
 use Rattle.pq_tree.specs.Forests.{forest}
 use Rattle.pq_tree.specs.Outline.{tree_and}
-use Rattle.template_theory.specs.Templates.{Partial}
+use Rattle.tree_theory.specs.Templates.{Partial}
 use Rattle.arena_model.specs.ChildLists.{with_replaced}
 use Rattle.arena_model.specs.Layout.{Layout, children_at, IsLayout, IsAtOrAbove, here, down}
 use Rattle.arena_model.specs.NamedTree.{outline_below}

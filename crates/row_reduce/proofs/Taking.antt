@@ -11,11 +11,11 @@ use Rattle.row_model.proofs.Walks.{conflict_none}
 use Rattle.pq_tree.specs.Outline.{Outline, leaves, IsFrontier}
 use Rattle.pq_tree.specs.Proper.{IsProper}
 use Rattle.pq_tree.proofs.Frontiers.{leaves_are_frontier}
-use Rattle.tied_law.specs.Tied.{IsTied}
-use Rattle.tied_law.proofs.Exact.{tied_law}
-use Rattle.template_theory.specs.Laws.{KeptLaw, DecidedLaw, RefusedLaw}
-use Rattle.template_theory.specs.Reduced.{IsReduced}
-use Rattle.template_theory.specs.Refused.{IsRefused}
+use Rattle.tree_theory.specs.Tied.{IsTied}
+use Rattle.tree_theory.proofs.Exact.{tied_law}
+use Rattle.tree_theory.specs.Laws.{KeptLaw, DecidedLaw, RefusedLaw}
+use Rattle.tree_theory.specs.Reduced.{IsReduced}
+use Rattle.tree_theory.specs.Refused.{IsRefused}
 
 -- a row, and a proper tree over its columns that is tied to the rows before it
 pub record AtRow (c : ℕ) (before : List (List ℕ)) (row : List ℕ) (t : Outline) : Type 0 where

@@ -3,7 +3,7 @@ use Rattle.std.proofs.Common.{◌≡◌, ◌≢◌, ℕ, ◌≤◌, ◌<◌, len
 use Rattle.column_order.specs.Orders.{occurs}
 use Rattle.pq_tree.specs.Outline.{Forest, p_node}
 use Rattle.pq_tree.specs.Equivalent.{AreEquivalent}
-use Rattle.template_theory.specs.Templates.{IsSorted}
+use Rattle.tree_theory.specs.Templates.{IsSorted}
 use Rattle.arena_model.specs.declared.Shape.TheVariants.{P, Q}
 use Rattle.arena_model.specs.Layout.{Layout, shape_at, children_at, IsLayout, here}
 use Rattle.arena_model.specs.NamedTree.{outline_below}

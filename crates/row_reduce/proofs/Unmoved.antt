@@ -2,9 +2,9 @@
 use Rattle.std.proofs.Common.{◌≡◌, ℕ, ◌-◌, ◌<◌, List, [], length, true, refl, sym, subst, ◌∙◌, arith}
 use Rattle.std.proofs.lemmas.Bool.{false≢true}
 use Rattle.row_model.specs.Graph.{row_at}
-use Rattle.template_theory.specs.Laws.{KeptLaw, RefusedLaw}
-use Rattle.template_theory.specs.declared.reducer.Step.{Step}
-use Rattle.template_theory.specs.declared.reducer.Step.TheVariants.{Taken, Refused}
+use Rattle.tree_theory.specs.Laws.{KeptLaw, RefusedLaw}
+use Rattle.tree_theory.specs.declared.reducer.Step.{Step}
+use Rattle.tree_theory.specs.declared.reducer.Step.TheVariants.{Taken, Refused}
 use Rattle.arena_model.specs.Layout.{Layout, here}
 use Rattle.arena_model.specs.NamedTree.{HasTwoEach, outline_at}
 use Rattle.arena_model.proofs.Trees.{no_circle}

@@ -1,8 +1,8 @@
 -- What stands in the arena while the templates below the pertinent root are applied, one after another.
 use Rattle.std.specs.Prelude.{◌≡◌, ℕ, ◌≤◌, ◌==◌, if◌then◌else◌, List, map}
 use Rattle.column_order.specs.Orders.{occurs}
-use Rattle.template_theory.specs.Templates.{Partial, Label, full_label, partial_label}
-use Rattle.template_theory.specs.Reduced.{IsLabel}
+use Rattle.tree_theory.specs.Templates.{Partial, Label, full_label, partial_label}
+use Rattle.tree_theory.specs.Reduced.{IsLabel}
 use Rattle.arena_model.specs.Layout.{Layout, shape_at, children_at, IsInUse, IsAtOrAbove}
 use Rattle.arena_model.specs.NamedTree.{outline_below, IsOneTree, HasTwoEach}
 use Rattle.bubble_pass.specs.Marks.{Marks, label_at, size_of}

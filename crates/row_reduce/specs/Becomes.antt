@@ -1,7 +1,7 @@
 -- What a template makes of a node in place.
 use Rattle.std.specs.Prelude.{◌≡◌, ℕ, Bool, true, false, List}
 use Rattle.pq_tree.specs.Outline.{Outline}
-use Rattle.template_theory.specs.Templates.{Partial, Label, IsP2, IsP3, IsP4, IsP5, IsP6, IsQ2, IsQ3}
+use Rattle.tree_theory.specs.Templates.{Partial, Label, IsP2, IsP3, IsP4, IsP5, IsP6, IsQ2, IsQ3}
 use Rattle.arena_model.specs.Layout.{Layout, children_at}
 use Rattle.bubble_pass.specs.Marks.{Marks}
 use Rattle.template_model.specs.Standing.{child_trees, AreMarkedAs, AreShapesAt}

@@ -1,7 +1,7 @@
 -- What is known of the nodes while the templates are decided, from the leaves of the row upwards.
 use Rattle.std.specs.Prelude.{◌≡◌, ℕ, List}
-use Rattle.template_theory.specs.Templates.{Label}
-use Rattle.template_theory.specs.Reduced.{IsLabel}
+use Rattle.tree_theory.specs.Templates.{Label}
+use Rattle.tree_theory.specs.Reduced.{IsLabel}
 use Rattle.arena_model.specs.Layout.{Layout}
 use Rattle.arena_model.specs.NamedTree.{outline_below}
 use Rattle.bubble_pass.specs.Marks.{Marks, label_at}

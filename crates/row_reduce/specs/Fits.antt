@@ -1,7 +1,7 @@
 -- Where a template stands at a node of an arena.
 use Rattle.std.specs.Prelude.{◌≡◌, ℕ, Bool, List, Option, Some, None}
 use Rattle.pq_tree.specs.Outline.{Outline}
-use Rattle.template_theory.specs.Templates.{Partial, Label, IsP1, IsP2, IsP3, IsP4, IsP5, IsP6, IsQ1, IsQ2, IsQ3}
+use Rattle.tree_theory.specs.Templates.{Partial, Label, IsP1, IsP2, IsP3, IsP4, IsP5, IsP6, IsQ1, IsQ2, IsQ3}
 use Rattle.arena_model.specs.declared.Shape.TheVariants.{Leaf, P, Q}
 use Rattle.arena_model.specs.Layout.{Layout, shape_at}
 use Rattle.bubble_pass.specs.declared.labels.Label.TheVariants.{Full}

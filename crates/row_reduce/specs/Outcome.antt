@@ -2,11 +2,11 @@
 use Rattle.std.specs.Prelude.{◌≡◌, ◌≢◌, ℕ, ◌≤◌, List, [], length}
 use Rattle.row_model.specs.Rows.{IsRow}
 use Rattle.pq_tree.specs.Proper.{IsProper}
-use Rattle.tied_law.specs.Tied.{IsTied}
-use Rattle.template_theory.specs.Reduced.{IsReduced}
-use Rattle.template_theory.specs.Refused.{IsRefused}
-use Rattle.template_theory.specs.declared.reducer.Step.{Step}
-use Rattle.template_theory.specs.declared.reducer.Step.TheVariants.{Taken, Refused}
+use Rattle.tree_theory.specs.Tied.{IsTied}
+use Rattle.tree_theory.specs.Reduced.{IsReduced}
+use Rattle.tree_theory.specs.Refused.{IsRefused}
+use Rattle.tree_theory.specs.declared.reducer.Step.{Step}
+use Rattle.tree_theory.specs.declared.reducer.Step.TheVariants.{Taken, Refused}
 use Rattle.arena_model.specs.Layout.{Layout}
 use Rattle.arena_model.specs.NamedTree.{IsOneTree, outline_at}
 use Rattle.pq_arena.specs.RowNodes.{column_leaves}

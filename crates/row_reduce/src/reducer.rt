@@ -4,9 +4,9 @@ ghost use Rattle.column_order.specs.Orders.{HasValidOrder};
 ghost use Rattle.row_model.specs.Graph.{row_at, HasConflict};
 ghost use Rattle.pq_tree.specs.Amortised.{nodes_met, nodes_met_below_root};
 ghost use Rattle.pq_tree.specs.Proper.{universal, IsProper};
-ghost use Rattle.tied_law.specs.Tied.{IsTied};
-ghost use Rattle.template_theory.specs.Reduced.{IsReduced};
-ghost use Rattle.template_theory.specs.Frugal.{IsFrugal};
+ghost use Rattle.tree_theory.specs.Tied.{IsTied};
+ghost use Rattle.tree_theory.specs.Reduced.{IsReduced};
+ghost use Rattle.tree_theory.specs.Frugal.{IsFrugal};
 ghost use Rattle.arena_model.specs.NamedTree.{outline_at};
 ghost use Rattle.arena_model.specs.RowLeaves.{column_leaves};
 ghost use Rattle.full_pass.specs.Answer.{IsRowKept};
@@ -22,8 +22,7 @@ use row_model::{COLUMN_BOUND, Matrix, NoMemory};
 use std::alloc::Global;
 use std::marker::Model;
 use step_count::{Ledger, Steps};
-use template_theory::{Reducer, Step, reduce_law, ticks_law};
-use tied_law::{equivalent_law, universal_law};
+use tree_theory::{Reducer, Step, equivalent_law, reduce_law, ticks_law, universal_law};
 
 /// A reducer whose tree stands in an arena. Each row is reduced in place, and looks at no more nodes than
 /// the row meets, up to a factor. A refused row changes nothing: the templates of all nodes are chosen

@@ -16,9 +16,9 @@ use full_pass::{End, FullWork, Settled, settle};
 use pq_arena::{Arena, NodeId};
 use row_model::Matrix;
 use step_count::{Ledger, Steps};
-use template_theory::{Step, reduce_law, turned_law};
 use templates_p::{apply_p2_to, divide};
 use templates_q::{apply_q3, fits_q3};
+use tree_theory::{Step, reduce_law, turned_law};
 
 // Reduces the tree of the arena by row `k` of the matrix, numbered from 1, or leaves it as it is where
 // no template stands at some node. Most rows of a long list change nothing, or one or two P-nodes, and the

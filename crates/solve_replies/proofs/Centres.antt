@@ -15,7 +15,7 @@ use Rattle.pq_tree.specs.declared.PqTree.{PqTree}
 use Rattle.robinson_balls.specs.Balls.{balls_round, balls_to, balls_of}
 use Rattle.instance_model.specs.Instance.{robinson}
 use Rattle.instance_model.specs.Laws.{FewRowsLaw}
-use Rattle.tied_law.specs.Tied.{IsTied}
+use Rattle.tree_theory.specs.Tied.{IsTied}
 use Rattle.c1p_solve.specs.Answers.{HasAllOrders}
 use Rattle.c1p_solve.specs.Growing.{Layout, outline_at, HasRefused, HasTaken, TakesRows}
 use Rattle.c1p_solve.specs.Totals.{reduction_steps, answer_steps}

@@ -4,7 +4,7 @@ use Rattle.row_model.specs.Rows.{RowList}
 use Rattle.pq_tree.specs.Outline.{Outline}
 use Rattle.pq_tree.specs.Amortised.{nodes_met}
 use Rattle.pq_tree.specs.Proper.{IsProper}
-use Rattle.tied_law.specs.Tied.{IsTied}
+use Rattle.tree_theory.specs.Tied.{IsTied}
 use Rattle.c1p_solve.specs.Sessions.{with_row}
 use Rattle.solve_replies.specs.Sessions.{Outcome, accepted, refused}
 

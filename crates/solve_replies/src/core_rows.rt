@@ -16,14 +16,13 @@ use crate::reply::told;
 use crate::verdicts::yes_on;
 use crate::{NoMemory, Solver};
 use core_text::{Core, CoreText, print_core};
-use exact_tree::exact_law;
 use instance_model::Instance;
 use pq_tree::PqTree;
 use row_core::{Cored, find_core};
 use row_model::{Kind, Matrix};
 use std::alloc::Global;
 use step_count::{Ledger, Steps};
-use tied_law::leaves_law;
+use tree_theory::{exact_law, leaves_law};
 use verdict_replies::{Reply, core_grammar_law};
 
 /// The reply on a matrix: a core; or, where the matrix has a valid order, what `solve` replies.

@@ -3,7 +3,7 @@ use Rattle.std.specs.Prelude.{◌≡◌, ◌≢◌, ◌⊎◌, ◌↔◌, ℕ, �
 use Rattle.column_order.specs.Orders.{occurs}
 use Rattle.pq_tree.specs.Outline.{Forest}
 use Rattle.pq_tree.specs.Proper.{forest}
-use Rattle.template_theory.specs.Templates.{Partial, Label, empty_label, full_label, partial_label}
+use Rattle.tree_theory.specs.Templates.{Partial, Label, empty_label, full_label, partial_label}
 use Rattle.arena_model.specs.declared.Shape.TheVariants.{Q}
 use Rattle.arena_model.specs.Layout.{Layout, shape_at, children_at, IsInUse}
 use Rattle.arena_model.specs.NamedTree.{outline_below, IsOneTree, HasTwoEach}

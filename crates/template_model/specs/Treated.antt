@@ -4,8 +4,8 @@ use Rattle.column_order.specs.Orders.{occurs}
 use Rattle.arena_model.specs.declared.Shape.TheVariants.{Leaf}
 use Rattle.pq_tree.specs.Outline.{Outline}
 use Rattle.pq_tree.specs.Equivalent.{IsEquivalent}
-use Rattle.template_theory.specs.Templates.{Partial, Label, partial_label}
-use Rattle.template_theory.specs.Reduced.{IsTurned}
+use Rattle.tree_theory.specs.Templates.{Partial, Label, partial_label}
+use Rattle.tree_theory.specs.Reduced.{IsTurned}
 use Rattle.arena_model.specs.ChildLists.{with_replaced}
 use Rattle.arena_model.specs.Layout.{Layout, shape_at, children_at, IsAtOrAbove, IsInUse}
 use Rattle.arena_model.specs.NamedTree.{outline_below, IsOneTree, HasTwoEach}

@@ -10,7 +10,7 @@ use Rattle.arena_model.specs.Layout.{Layout, shape_at, children_at, IsLayout}
 use Rattle.arena_model.specs.NamedTree.{outline_below}
 use Rattle.pq_arena.specs.declared.node.NodeId.{NodeId}
 use Rattle.bubble_pass.specs.Marks.{Marks, fulls_at}
-use Rattle.template_theory.specs.Templates.{Label, star, IsP2}
+use Rattle.tree_theory.specs.Templates.{Label, star, IsP2}
 use Rattle.template_model.specs.Standing.{child_trees, AreMarkedAs, IsReady}
 use Rattle.template_model.specs.Treated.{StandsForTree}
 use Rattle.templates_p.specs.Fits.{StandsP2}

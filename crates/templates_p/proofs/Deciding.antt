@@ -7,7 +7,7 @@ use Rattle.arena_model.specs.declared.Shape.TheVariants.{P}
 use Rattle.arena_model.specs.Layout.{Layout, shape_at, children_at}
 use Rattle.arena_model.specs.NamedTree.{outline_below}
 use Rattle.bubble_pass.specs.Marks.{Marks}
-use Rattle.template_theory.specs.Templates.{Partial, Label, IsSorted, none_sorted, to_full, p2, p3, p4, p5, p6}
+use Rattle.tree_theory.specs.Templates.{Partial, Label, IsSorted, none_sorted, to_full, p2, p3, p4, p5, p6}
 use Rattle.template_model.specs.Standing.{child_trees, AreMarkedAs, IsReady}
 use Rattle.templates_p.specs.declared.sight.Sight.{Sight}
 use Rattle.templates_p.specs.Sorts.{full_nodes, empty_nodes, partial_nodes, IsSeenAs, AllAreFull, AreFullAndEmpty, HasPartials}

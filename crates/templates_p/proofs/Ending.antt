@@ -13,7 +13,7 @@ use Rattle.arena_model.specs.NamedTree.{outline_below, HasTwoEach}
 use Rattle.arena_model.proofs.Lists.{occurs_here}
 use Rattle.bubble_pass.specs.declared.labels.Label.TheVariants.{Empty, Partial as Partly}
 use Rattle.bubble_pass.specs.Marks.{Marks, label_at}
-use Rattle.template_theory.specs.Templates.{Partial, Label, IsSorted, star, line, under, IsP4}
+use Rattle.tree_theory.specs.Templates.{Partial, Label, IsSorted, star, line, under, IsP4}
 use Rattle.template_model.specs.Standing.{child_trees, AreMarkedAs, AreShapesAt, IsShapeAt}
 use Rattle.template_model.specs.Treated.{StandsForTree}
 use Rattle.templates_p.specs.Sorts.{full_nodes, empty_nodes, partial_nodes}

@@ -18,7 +18,7 @@ use Rattle.arena_model.proofs.Trees.{no_circle}
 use Rattle.pq_arena.specs.declared.node.NodeId.{NodeId}
 use Rattle.bubble_pass.specs.declared.labels.Label.TheVariants.{Empty, Partial as Partly}
 use Rattle.bubble_pass.specs.Marks.{Marks, label_at, size_of}
-use Rattle.template_theory.specs.Templates.{Partial, star, p5}
+use Rattle.tree_theory.specs.Templates.{Partial, star, p5}
 use Rattle.template_model.specs.Standing.{IsShapeAt, IsReady}
 use Rattle.template_model.specs.Treated.{IsTreated, StandsForPartial}
 use Rattle.templates_p.specs.Fits.{StandsP5}

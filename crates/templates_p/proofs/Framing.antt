@@ -20,7 +20,7 @@ use Rattle.arena_model.proofs.Paths.{above_step}
 use Rattle.bubble_pass.specs.declared.labels.Label.{Label as Mark}
 use Rattle.bubble_pass.specs.declared.labels.Label.TheVariants.{Empty, Full}
 use Rattle.bubble_pass.specs.Marks.{Marks, label_at}
-use Rattle.template_theory.specs.Templates.{Partial}
+use Rattle.tree_theory.specs.Templates.{Partial}
 use Rattle.template_model.specs.Standing.{IsShapeAt}
 use Rattle.arena_model.proofs.Slots.{child_used}
 use Rattle.templates_p.specs.Steps.{IsSameAt}

@@ -9,7 +9,7 @@ use Rattle.arena_model.proofs.Lists.{occurs_here}
 use Rattle.arena_model.proofs.Slots.{used_by}
 use Rattle.bubble_pass.specs.declared.labels.Label.TheVariants.{Partial as Partly}
 use Rattle.bubble_pass.specs.Marks.{Marks, label_at, size_of}
-use Rattle.template_theory.specs.Templates.{Partial, Label, IsSorted}
+use Rattle.tree_theory.specs.Templates.{Partial, Label, IsSorted}
 use Rattle.template_model.specs.Standing.{child_trees, AreMarkedAs, IsShapeAt, IsReady}
 use Rattle.template_model.specs.Treated.{IsTreated}
 use Rattle.templates_p.specs.Fits.{StandsP4}

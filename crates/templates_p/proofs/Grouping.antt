@@ -18,7 +18,7 @@ use Rattle.pq_arena.specs.declared.node.NodeId.{NodeId}
 use Rattle.bubble_pass.specs.declared.labels.Label.TheVariants.{Empty, Partial as Partly, Full}
 use Rattle.pq_arena.specs.RowNodes.{indices}
 use Rattle.bubble_pass.specs.Marks.{Marks, label_at, fulls_at, partials_at, size_of, first_of, next_of, IsFollowed}
-use Rattle.template_theory.specs.Templates.{star}
+use Rattle.tree_theory.specs.Templates.{star}
 use Rattle.template_model.specs.Standing.{IsReady}
 use Rattle.template_model.specs.Treated.{IsTreated}
 use Rattle.templates_p.specs.Sorts.{full_nodes, empty_nodes, partial_nodes, full_then}

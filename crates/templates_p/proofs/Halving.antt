@@ -11,7 +11,7 @@ use Rattle.arena_model.proofs.Lists.{occurs_here, occurs_other, only_one}
 use Rattle.arena_model.proofs.Slots.{used_by, child_used}
 use Rattle.arena_model.proofs.Paths.{one_parent}
 use Rattle.arena_model.proofs.Trees.{no_circle}
-use Rattle.template_theory.specs.Templates.{star}
+use Rattle.tree_theory.specs.Templates.{star}
 use Rattle.template_model.proofs.Replaced.{replaced_self}
 use Rattle.templates_p.specs.Dividing.{AreSome, IsDivided}
 use Rattle.templates_p.specs.Sorts.{full_nodes, empty_nodes}

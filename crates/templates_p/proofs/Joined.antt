@@ -15,7 +15,7 @@ use Rattle.arena_model.specs.NamedTree.{outline_below}
 use Rattle.pq_arena.specs.declared.node.NodeId.{NodeId}
 use Rattle.bubble_pass.specs.declared.labels.Label.TheVariants.{Empty}
 use Rattle.bubble_pass.specs.Marks.{Marks, label_at}
-use Rattle.template_theory.specs.Templates.{Partial, Label, star, line, IsP6}
+use Rattle.tree_theory.specs.Templates.{Partial, Label, star, line, IsP6}
 use Rattle.template_model.specs.Standing.{child_trees, AreMarkedAs, AreShapesAt, IsShapeAt}
 use Rattle.template_model.specs.Treated.{StandsForTree}
 use Rattle.templates_p.specs.Sorts.{empty_nodes, partial_nodes}

@@ -14,7 +14,7 @@ use Rattle.arena_model.proofs.Slots.{used_by}
 use Rattle.pq_arena.specs.declared.node.NodeId.{NodeId}
 use Rattle.bubble_pass.specs.declared.labels.Label.TheVariants.{Partial as Partly, Full}
 use Rattle.bubble_pass.specs.Marks.{Marks, label_at, size_of}
-use Rattle.template_theory.specs.Templates.{star}
+use Rattle.tree_theory.specs.Templates.{star}
 use Rattle.template_model.specs.Treated.{IsTreated}
 use Rattle.template_model.proofs.Unchanged.{unchanged}
 use Rattle.templates_p.specs.Sorts.{full_nodes, empty_nodes, partial_nodes}

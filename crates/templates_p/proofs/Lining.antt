@@ -18,7 +18,7 @@ use Rattle.arena_model.specs.NamedTree.{outline_below}
 use Rattle.arena_model.proofs.Lists.{occurs_same, occurs_other, reverse_cons}
 use Rattle.bubble_pass.specs.declared.labels.Label.TheVariants.{Empty, Full}
 use Rattle.bubble_pass.specs.Marks.{Marks, label_at}
-use Rattle.template_theory.specs.Templates.{Partial, star}
+use Rattle.tree_theory.specs.Templates.{Partial, star}
 use Rattle.template_model.specs.Treated.{StandsForPartial}
 use Rattle.templates_p.specs.Steps.{IsSameAt}
 use Rattle.templates_p.specs.Lines.{IsShapeTo, IsAbsorbed}

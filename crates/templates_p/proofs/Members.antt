@@ -19,7 +19,7 @@ use Rattle.pq_arena.specs.RowNodes.{indices}
 use Rattle.bubble_pass.specs.declared.labels.Label.{Label as Mark}
 use Rattle.bubble_pass.specs.declared.labels.Label.TheVariants.{Empty, Full}
 use Rattle.bubble_pass.specs.Marks.{Marks, label_at}
-use Rattle.template_theory.specs.Templates.{Label, empty_label, full_label, IsSorted, IsP2, p2}
+use Rattle.tree_theory.specs.Templates.{Label, empty_label, full_label, IsSorted, IsP2, p2}
 use Rattle.template_model.specs.Standing.{mark_of, child_trees}
 use Rattle.template_model.specs.Treated.{IsReplacedAt, StandsForTree}
 use Rattle.templates_p.specs.Members.{AreMembers, member_labels}

@@ -13,7 +13,7 @@ use Rattle.arena_model.proofs.Lists.{occurs_here, only_one, occurs_other}
 use Rattle.arena_model.proofs.Slots.{used_by, child_used}
 use Rattle.bubble_pass.specs.declared.labels.Label.TheVariants.{Empty}
 use Rattle.bubble_pass.specs.Marks.{Marks, label_at}
-use Rattle.template_theory.specs.Templates.{star}
+use Rattle.tree_theory.specs.Templates.{star}
 use Rattle.template_model.specs.Treated.{IsTreated}
 use Rattle.templates_p.specs.Steps.{IsSameAt}
 use Rattle.templates_p.specs.Parts.{IsParted}

@@ -15,7 +15,7 @@ use Rattle.pq_arena.specs.declared.node.NodeView.{NodeView}
 use Rattle.pq_arena.specs.Looks.{ShowsNode, shown_ends, node_named}
 use Rattle.bubble_pass.specs.declared.labels.Label.TheVariants.{Empty, Full}
 use Rattle.bubble_pass.specs.Marks.{Marks, label_at}
-use Rattle.template_theory.specs.Templates.{Partial}
+use Rattle.tree_theory.specs.Templates.{Partial}
 use Rattle.template_model.specs.Standing.{IsShapeAt}
 use Rattle.templates_p.specs.Lines.{IsShapeTo}
 use Rattle.templates_p.proofs.Framing.{reverse_occurs, shape_member}

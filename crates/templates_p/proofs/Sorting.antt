@@ -11,7 +11,7 @@ use Rattle.bubble_pass.specs.declared.labels.Label.{Label as Mark}
 use Rattle.bubble_pass.specs.declared.labels.Label.TheVariants.{Empty, Partial as Partly, Full}
 use Rattle.bubble_pass.specs.Marks.{Marks, label_at}
 use Rattle.bubble_pass.specs.Sweep.{full_one, partial_one}
-use Rattle.template_theory.specs.Templates.{Partial, Label, empty_label, full_label, partial_label, IsSorted, none_sorted, to_empty, to_full, to_partial}
+use Rattle.tree_theory.specs.Templates.{Partial, Label, empty_label, full_label, partial_label, IsSorted, none_sorted, to_empty, to_full, to_partial}
 use Rattle.template_model.specs.Standing.{mark_of, IsShapeAt, AreShapesAt}
 use Rattle.templates_p.specs.Sorts.{full_then, empty_then, partial_then, full_nodes, empty_nodes, partial_nodes}
 

@@ -18,7 +18,7 @@ use Rattle.arena_model.proofs.Slots.{some_none, in_range, used_by, children_same
 use Rattle.arena_model.proofs.Trees.{no_circle}
 use Rattle.bubble_pass.specs.declared.labels.Label.TheVariants.{Empty, Full}
 use Rattle.bubble_pass.specs.Marks.{Marks, label_at, size_of}
-use Rattle.template_theory.specs.Templates.{Partial, Label, star, p3, IsP3}
+use Rattle.tree_theory.specs.Templates.{Partial, Label, star, p3, IsP3}
 use Rattle.template_model.specs.Standing.{child_trees, AreMarkedAs, IsReady}
 use Rattle.template_model.specs.Treated.{IsTreated, StandsForPartial}
 use Rattle.templates_p.specs.Fits.{StandsP3}

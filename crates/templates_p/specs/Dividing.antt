@@ -7,7 +7,7 @@ use Rattle.arena_model.specs.declared.Shape.TheVariants.{P, Q}
 use Rattle.arena_model.specs.ChildLists.{without}
 use Rattle.arena_model.specs.Layout.{Layout, slot, shape_at, children_at, with_children, given_back, IsAtOrAbove, StandsAlone}
 use Rattle.arena_model.specs.NamedTree.{outline_below}
-use Rattle.template_theory.specs.Templates.{star, IsSorted}
+use Rattle.tree_theory.specs.Templates.{star, IsSorted}
 use Rattle.template_model.specs.Standing.{child_trees}
 use Rattle.template_model.specs.Treated.{IsReplacedAt}
 use Rattle.templates_p.specs.Members.{member_labels}

@@ -5,7 +5,7 @@ use Rattle.arena_model.specs.Layout.{Layout, shape_at, children_at}
 use Rattle.bubble_pass.specs.declared.labels.Label.TheVariants.{Full}
 use Rattle.bubble_pass.specs.Marks.{Marks, label_at}
 use Rattle.pq_tree.specs.Outline.{Outline}
-use Rattle.template_theory.specs.Templates.{Partial, Label, IsP1, IsP2, IsP3, IsP4, IsP5, IsP6}
+use Rattle.tree_theory.specs.Templates.{Partial, Label, IsP1, IsP2, IsP3, IsP4, IsP5, IsP6}
 use Rattle.template_model.specs.Standing.{child_trees, AreMarkedAs, AreShapesAt}
 
 -- L1 fits: a full leaf

@@ -3,7 +3,7 @@ use Rattle.std.specs.Prelude.{◌≡◌, ℕ, ◌≤◌, ◌<◌, List, map, len
 use Rattle.column_order.specs.Orders.{has, occurs}
 use Rattle.arena_model.specs.declared.Shape.TheVariants.{P}
 use Rattle.arena_model.specs.Layout.{Layout, shape_at, children_at}
-use Rattle.template_theory.specs.Templates.{Label, empty_label, full_label}
+use Rattle.tree_theory.specs.Templates.{Label, empty_label, full_label}
 
 -- these are children of the P-node n, each once, two or more and not all
 pub record AreMembers (f : Layout) (n : ℕ) (members : List ℕ) : Type 0 where

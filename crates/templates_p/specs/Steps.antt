@@ -12,7 +12,7 @@ use Rattle.bubble_pass.specs.declared.labels.Label.{Label as Mark}
 use Rattle.bubble_pass.specs.declared.labels.Label.TheVariants.{Empty, Full}
 use Rattle.pq_arena.specs.RowNodes.{indices}
 use Rattle.bubble_pass.specs.Marks.{Marks, label_at, fulls_at, partials_at, IsFollowed}
-use Rattle.template_theory.specs.Templates.{Partial, star}
+use Rattle.tree_theory.specs.Templates.{Partial, star}
 use Rattle.template_model.specs.Standing.{IsShapeAt, IsReady}
 use Rattle.templates_p.specs.Sorts.{full_nodes, empty_nodes, partial_nodes}
 

@@ -5,7 +5,7 @@ ghost use Rattle.arena_model.specs.Layout.{children_at};
 ghost use Rattle.arena_model.specs.NamedTree.{IsOneTree, HasTwoEach};
 ghost use Rattle.pq_arena.specs.RowNodes.{indices};
 ghost use Rattle.bubble_pass.specs.Marks.{fulls_at, partials_at};
-ghost use Rattle.template_theory.specs.Templates.{IsP2, IsP3, IsP4, IsP5, IsP6};
+ghost use Rattle.tree_theory.specs.Templates.{IsP2, IsP3, IsP4, IsP5, IsP6};
 ghost use Rattle.template_model.specs.Standing.{IsReady, child_trees};
 ghost use Rattle.template_model.specs.Treated.{IsTreated, IsReplacedAt, StandsForTree, BecomesTree, BecomesPartial};
 ghost use Rattle.templates_p.specs.Fits.{FitsL1, StandsP1, StandsP2, StandsP3, StandsP4, StandsP5, StandsP6};

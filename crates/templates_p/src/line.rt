@@ -2,7 +2,7 @@
 ghost use Rattle.std.specs.Prelude.{◌≡◌, ◌↔◌, IsTrue, ◌+◌, ◌≤◌, ◌<◌, length};
 ghost use Rattle.bubble_pass.specs.declared.labels.Label.TheVariants.{Full};
 ghost use Rattle.bubble_pass.specs.Marks.{label_at, size_of};
-ghost use Rattle.template_theory.specs.Templates.{Partial};
+ghost use Rattle.tree_theory.specs.Templates.{Partial};
 ghost use Rattle.template_model.specs.Standing.{IsShapeAt};
 ghost use Rattle.template_model.specs.Treated.{IsTreated};
 ghost use Rattle.templates_p.specs.Lines.{IsShapeTo, CanHandOver, IsHandedOver, IsSettled, put_in, CanPutIn, CanAbsorb, IsAbsorbed};

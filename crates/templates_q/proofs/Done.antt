@@ -4,7 +4,7 @@ use Rattle.column_order.specs.Orders.{occurs}
 use Rattle.column_order.proofs.Lists.{occurs-append}
 use Rattle.arena_model.specs.Layout.{Layout, children_at, IsLayout}
 use Rattle.arena_model.specs.NamedTree.{IsOneTree, HasTwoEach}
-use Rattle.template_theory.specs.Templates.{Partial, Label}
+use Rattle.tree_theory.specs.Templates.{Partial, Label}
 use Rattle.bubble_pass.specs.Marks.{Marks}
 use Rattle.template_model.specs.Standing.{IsShapeAt, AreMarkedAs, IsReady, IsReadyInside, IsInMarkedRun}
 use Rattle.template_model.specs.Treated.{IsTreated}

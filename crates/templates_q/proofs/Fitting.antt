@@ -8,7 +8,7 @@ use Rattle.arena_model.specs.NamedTree.{outline_below}
 use Rattle.pq_tree.specs.Outline.{Outline, Forest}
 use Rattle.pq_tree.specs.Forests.{forest, back}
 use Rattle.pq_tree.proofs.Forests.{map-reverse, forest_reverse}
-use Rattle.template_theory.specs.Templates.{Partial, Label, empty_label, full_label, partial_label, IsRun, q2}
+use Rattle.tree_theory.specs.Templates.{Partial, Label, empty_label, full_label, partial_label, IsRun, q2}
 use Rattle.bubble_pass.specs.declared.labels.Label.TheVariants.{Empty, Partial as Partly, Full}
 use Rattle.bubble_pass.specs.Marks.{Marks, label_at, fulls_at, partials_at}
 use Rattle.template_model.specs.Standing.{mark_of, AreMarkedAs, IsReady}

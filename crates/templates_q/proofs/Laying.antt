@@ -16,7 +16,7 @@ use Rattle.pq_tree.specs.Forests.{forest, trees, join, back}
 use Rattle.pq_tree.specs.Equivalent.{IsEquivalent}
 use Rattle.pq_tree.proofs.Forests.{map-reverse, forest_append, forest_reverse, forest-trees}
 use Rattle.pq_tree.proofs.Turnings.{are_equivalent_refl}
-use Rattle.template_theory.specs.Templates.{Partial, Label, IsTwoSidedRun, IsQ3, line_if, q3}
+use Rattle.tree_theory.specs.Templates.{Partial, Label, IsTwoSidedRun, IsQ3, line_if, q3}
 use Rattle.bubble_pass.specs.declared.labels.Label.TheVariants.{Empty, Full}
 use Rattle.bubble_pass.specs.Marks.{Marks, label_at}
 use Rattle.template_model.specs.Standing.{child_trees, IsShapeAt, AreMarkedAs}

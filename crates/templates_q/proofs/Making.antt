@@ -12,7 +12,7 @@ use Rattle.pq_tree.specs.Outline.{Outline, Forest}
 use Rattle.pq_tree.specs.Forests.{forest, join}
 use Rattle.pq_tree.proofs.Forests.{forest_append}
 use Rattle.pq_tree.proofs.Turnings.{are_equivalent_refl}
-use Rattle.template_theory.specs.Templates.{Partial, Label, empty_label, full_label, partial_label, q2, IsQ2}
+use Rattle.tree_theory.specs.Templates.{Partial, Label, empty_label, full_label, partial_label, q2, IsQ2}
 use Rattle.bubble_pass.specs.declared.labels.Label.{Label as Mark}
 use Rattle.bubble_pass.specs.declared.labels.Label.TheVariants.{Empty, Partial as Partly, Full}
 use Rattle.bubble_pass.specs.Marks.{Marks, label_at}

@@ -12,7 +12,7 @@ use Rattle.pq_arena.specs.declared.node.NodeId.{NodeId}
 use Rattle.pq_arena.specs.Looks.{node_named}
 use Rattle.pq_tree.specs.Forests.{forest, join}
 use Rattle.pq_tree.proofs.Forests.{forest_append}
-use Rattle.template_theory.specs.Templates.{Partial, line_if}
+use Rattle.tree_theory.specs.Templates.{Partial, line_if}
 use Rattle.bubble_pass.specs.declared.labels.Label.TheVariants.{Partial as Partly}
 use Rattle.bubble_pass.specs.Marks.{Marks, size_of}
 use Rattle.template_model.specs.Standing.{IsShapeAt}

@@ -12,7 +12,7 @@ use Rattle.arena_model.specs.Layout.{Layout, shape_at, children_at}
 use Rattle.arena_model.specs.NamedTree.{outline_below}
 use Rattle.arena_model.proofs.Lists.{occurs_here, occurs_other}
 use Rattle.pq_arena.specs.declared.node.NodeId.{NodeId}
-use Rattle.template_theory.specs.Templates.{Label, IsTwoSidedRun, q3}
+use Rattle.tree_theory.specs.Templates.{Label, IsTwoSidedRun, q3}
 use Rattle.pq_tree.specs.Outline.{q_node}
 use Rattle.pq_tree.specs.Forests.{forest}
 use Rattle.bubble_pass.specs.declared.labels.Label.{Label as Mark}

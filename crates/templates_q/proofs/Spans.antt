@@ -3,7 +3,7 @@ use Rattle.std.proofs.Common.{◌≡◌, ℕ, ◌≤◌, List, [], ◌∷◌, �
 use Rattle.std.proofs.lemmas.List.{length-reverse}
 use Rattle.pq_tree.specs.Outline.{Outline, Forest}
 use Rattle.pq_tree.specs.Forests.{forest}
-use Rattle.template_theory.specs.Templates.{Partial, Label, empty_label, full_label, partial_label, IsTail, tail_empty, tail_partial, tail_more, IsTwoSidedRun, span_tail, span_partial, span_more}
+use Rattle.tree_theory.specs.Templates.{Partial, Label, empty_label, full_label, partial_label, IsTail, tail_empty, tail_partial, tail_more, IsTwoSidedRun, span_tail, span_partial, span_more}
 use Rattle.bubble_pass.specs.declared.labels.Label.{Label as Mark}
 use Rattle.bubble_pass.specs.declared.labels.Label.TheVariants.{Empty, Partial as Partly, Full}
 use Rattle.bubble_pass.specs.Marks.{Marks, label_at}

@@ -15,7 +15,7 @@ use Rattle.arena_model.proofs.Slots.{some_inj, child_used}
 use Rattle.arena_model.proofs.Paths.{one_parent}
 use Rattle.arena_model.proofs.Trees.{no_circle}
 use Rattle.pq_tree.specs.Forests.{forest}
-use Rattle.template_theory.specs.Templates.{Partial}
+use Rattle.tree_theory.specs.Templates.{Partial}
 use Rattle.pq_arena.specs.declared.node.NodeId.{NodeId}
 use Rattle.pq_arena.specs.declared.node.NodeView.{NodeView}
 use Rattle.pq_arena.specs.Looks.{node_named, ShowsNode, IsBeside}

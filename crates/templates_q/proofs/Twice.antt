@@ -5,7 +5,7 @@ use Rattle.arena_model.specs.declared.Shape.TheVariants.{Leaf, Q}
 use Rattle.arena_model.specs.Layout.{Layout, shape_at, children_at, IsInUse, IsLayout}
 use Rattle.arena_model.specs.NamedTree.{IsOneTree, HasTwoEach}
 use Rattle.arena_model.proofs.Slots.{used_by}
-use Rattle.template_theory.specs.Templates.{Partial}
+use Rattle.tree_theory.specs.Templates.{Partial}
 use Rattle.bubble_pass.specs.Marks.{Marks, label_at}
 use Rattle.template_model.specs.Standing.{IsShapeAt}
 use Rattle.template_model.specs.Treated.{IsOutside, IsReplacedAt, IsTreated}

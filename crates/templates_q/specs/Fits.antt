@@ -1,7 +1,7 @@
 -- Where the templates of a Q-node fit in an arena.
 use Rattle.std.specs.Prelude.{◌≡◌, Bool, ℕ, List, Some}
 use Rattle.pq_tree.specs.Outline.{Outline}
-use Rattle.template_theory.specs.Templates.{Partial, Label, IsQ1, IsQ2, IsQ3}
+use Rattle.tree_theory.specs.Templates.{Partial, Label, IsQ1, IsQ2, IsQ3}
 use Rattle.arena_model.specs.declared.Shape.TheVariants.{Q}
 use Rattle.arena_model.specs.Layout.{Layout, shape_at, children_at}
 use Rattle.bubble_pass.specs.Marks.{Marks}

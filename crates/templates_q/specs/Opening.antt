@@ -1,7 +1,7 @@
 -- The children of Q-shapes at the ends of some labelled children in their places.
 use Rattle.std.specs.Prelude.{◌≡◌, ℕ, ◌≤◌, List, [], ◌∷◌, ◌++◌, length}
 use Rattle.column_order.specs.Orders.{occurs}
-use Rattle.template_theory.specs.Templates.{Partial}
+use Rattle.tree_theory.specs.Templates.{Partial}
 use Rattle.arena_model.specs.Layout.{Layout, children_at, IsLayout}
 use Rattle.arena_model.specs.NamedTree.{HasTwoEach}
 use Rattle.bubble_pass.specs.declared.labels.Label.TheVariants.{Partial as Partly}

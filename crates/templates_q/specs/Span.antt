@@ -2,7 +2,7 @@
 use Rattle.std.specs.Prelude.{◌≡◌, ◌≢◌, ℕ, ◌+◌, ◌≤◌, Bool, true, List, [], ◌∷◌, ◌++◌, length, Some, sum_by}
 use Rattle.column_order.specs.Orders.{occurs}
 use Rattle.pq_tree.specs.Outline.{Outline}
-use Rattle.template_theory.specs.Templates.{Label, IsQ3}
+use Rattle.tree_theory.specs.Templates.{Label, IsQ3}
 use Rattle.arena_model.specs.declared.Shape.TheVariants.{Leaf, Q}
 use Rattle.arena_model.specs.Layout.{Layout, shape_at, children_at, IsAtOrAbove}
 use Rattle.bubble_pass.specs.declared.labels.Label.TheVariants.{Empty, Partial, Full}

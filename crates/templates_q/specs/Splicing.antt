@@ -8,7 +8,7 @@ use Rattle.pq_arena.specs.declared.node.NodeId.{NodeId}
 use Rattle.pq_arena.specs.Looks.{node_named}
 use Rattle.bubble_pass.specs.declared.labels.Label.TheVariants.{Empty, Partial as Partly, Full}
 use Rattle.bubble_pass.specs.Marks.{Marks, label_at, size_of}
-use Rattle.template_theory.specs.Templates.{Partial}
+use Rattle.tree_theory.specs.Templates.{Partial}
 use Rattle.template_model.specs.Standing.{IsShapeAt}
 use Rattle.templates_q.specs.declared.q2.PartialLine.{PartialLine}
 use Rattle.templates_q.specs.Walk.{AreChildren, AreAll}

@@ -1,7 +1,7 @@
 // Q2.
 ghost use Rattle.std.specs.Prelude.{◌≡◌, ℕ, ◌+◌, ◌*◌, ◌≤◌, ◌↔◌, IsTrue, List, [], length, None};
 ghost use Rattle.bubble_pass.specs.Marks.{fulls_at, partials_at, size_of};
-ghost use Rattle.template_theory.specs.Templates.{Label, IsQ2};
+ghost use Rattle.tree_theory.specs.Templates.{Label, IsQ2};
 ghost use Rattle.template_model.specs.Standing.{IsReady, AreMarkedAs, Tells, child_trees};
 ghost use Rattle.template_model.specs.Treated.{IsTreated, BecomesPartial};
 ghost use Rattle.templates_q.specs.Walk.{IsChildGap};

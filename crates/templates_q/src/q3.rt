@@ -6,7 +6,7 @@ ghost use Rattle.arena_model.specs.NamedTree.{HasTwoEach, IsOneTree};
 ghost use Rattle.arena_model.specs.declared.Shape.TheVariants.{Q};
 ghost use Rattle.bubble_pass.specs.Marks.{fulls_at, partials_at, size_of};
 ghost use Rattle.pq_arena.specs.Looks.{ShowsNode};
-ghost use Rattle.template_theory.specs.Templates.{Partial};
+ghost use Rattle.tree_theory.specs.Templates.{Partial};
 ghost use Rattle.template_model.specs.Standing.{IsReady, IsReadyInside, IsInMarkedRun, IsShapeAt, Tells};
 ghost use Rattle.template_model.specs.Treated.{IsTreated, IsReplacedAt};
 ghost use Rattle.templates_q.specs.Fits.{FitsQ3};

@@ -3,7 +3,7 @@ ghost use Rattle.std.specs.Prelude.{◌≡◌, ℕ, ◌+◌, ◌≤◌, List, �
 ghost use Rattle.arena_model.specs.ChildLists.{oriented};
 ghost use Rattle.arena_model.specs.Layout.{children_at};
 ghost use Rattle.bubble_pass.specs.Marks.{size_of};
-ghost use Rattle.template_theory.specs.Templates.{Partial};
+ghost use Rattle.tree_theory.specs.Templates.{Partial};
 ghost use Rattle.template_model.specs.Standing.{IsShapeAt};
 ghost use Rattle.templates_q.specs.Splicing.{IsLineIn, CanSpliceIn, IsSplicedIn};
 

@@ -8,8 +8,8 @@ use Rattle.column_order.specs.Orders.{has, occurs}
 use Rattle.column_order.proofs.Lists.{has_cases, has_append_left, has_append_right, has_append_cases, occurs-append}
 use Rattle.pq_tree.specs.Outline.{Outline, Forest, leaf, p_node, q_node, no_tree, tree_and, leaves, leaves_of}
 use Rattle.pq_tree.specs.Proper.{HasArities, HaveArities}
-use Rattle.tied_law.specs.Tied.{IsForward, IsClosed, IsInLine}
-use Rattle.tied_law.proofs.Bound.{AreClosed, IsBound, AreBound, IsPairEq, closed_through, line_closed}
+use Rattle.tree_theory.specs.Tied.{IsForward, IsClosed, IsInLine}
+use Rattle.tree_theory.proofs.Bound.{AreClosed, IsBound, AreBound, IsPairEq, closed_through, line_closed}
 use Rattle.tree_meet.specs.TreeRows.{pairs_from, neighbours, groups, groups_of}
 use Rattle.tree_meet.proofs.Groups.{IsPart, each, both_all, left_all, right_all}
 use Rattle.tree_meet.proofs.Line.{stands_in_line}

@@ -10,7 +10,7 @@ use Rattle.pq_tree.specs.Proper.{IsProper}
 use Rattle.pq_tree.specs.declared.PqTree.{PqTree}
 use Rattle.pq_tree.proofs.Frontiers.{frontier_occurs}
 use Rattle.pq_tree.proofs.AllOrders.{all_orders}
-use Rattle.canonical_tree.specs.Laws.{CanonicalTreeLaw, OneShapeLaw}
+use Rattle.tree_theory.specs.CanonicalLaws.{CanonicalTreeLaw, OneShapeLaw}
 use Rattle.row_judge.specs.Judges.{IsTreeOfOrders}
 use Rattle.tree_meet.specs.TreeRows.{rows_of_tree}
 use Rattle.odd_cycle.specs.Short.{IsShort}

@@ -9,8 +9,8 @@ use Rattle.column_order.proofs.Lists.{has_append_left, has_append_right, has_app
 use Rattle.pq_tree.specs.Outline.{Outline, Forest, no_tree, tree_and, leaves, leaves_of}
 use Rattle.pq_tree.specs.Proper.{HasArities, HaveArities}
 use Rattle.pq_tree.proofs.Forests.{some_leaf}
-use Rattle.tied_law.specs.Tied.{IsForward, IsClosed, IsInLine}
-use Rattle.tied_law.proofs.Bound.{AreClosed, IsPairEq}
+use Rattle.tree_theory.specs.Tied.{IsForward, IsClosed, IsInLine}
+use Rattle.tree_theory.proofs.Bound.{AreClosed, IsPairEq}
 use Rattle.tree_meet.specs.TreeRows.{pairs_from}
 use Rattle.tree_meet.proofs.Groups.{IsPart}
 

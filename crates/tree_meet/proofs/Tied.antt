@@ -10,13 +10,13 @@ use Rattle.column_order.specs.Orders.{has, occurs, place, IsOrder, IsValidOrder,
 use Rattle.column_order.proofs.Counts.{order_once, order_within}
 use Rattle.pq_tree.specs.Outline.{Outline, leaves, IsFrontier}
 use Rattle.pq_tree.specs.Proper.{IsProper}
-use Rattle.tied_law.specs.Tied.{IsClosed, IsTied}
-use Rattle.tied_law.proofs.Frontiers.{frontier_has, frontier_occurs}
-use Rattle.tied_law.proofs.Bound.{IsBound}
-use Rattle.tied_law.proofs.Bridge.{alike_eq, evenly_eq, last_row_closed, closed_keeps, bound_tied}
-use Rattle.tied_law.proofs.Alike.{Alike, frontier_bound}
-use Rattle.tied_law.proofs.Exact.{order_rises}
-use Rattle.tied_law.proofs.Exact.{tied_law}
+use Rattle.tree_theory.specs.Tied.{IsClosed, IsTied}
+use Rattle.tree_theory.proofs.Frontiers.{frontier_has, frontier_occurs}
+use Rattle.tree_theory.proofs.Bound.{IsBound}
+use Rattle.tree_theory.proofs.Bridge.{alike_eq, evenly_eq, last_row_closed, closed_keeps, bound_tied}
+use Rattle.tree_theory.proofs.Alike.{Alike, frontier_bound}
+use Rattle.tree_theory.proofs.Exact.{order_rises}
+use Rattle.tree_theory.proofs.Exact.{tied_law}
 use Rattle.tree_meet.specs.TreeRows.{groups, row_of_group, rows_of_tree}
 use Rattle.tree_meet.proofs.Groups.{IsPart, each, all_map, map_all, groups_part, row_has, row_lacks, has_in_row}
 use Rattle.tree_meet.proofs.Closed.{IsGroup, bound_by_groups, groups_closed}

@@ -4,8 +4,8 @@ use Rattle.column_order.specs.Orders.{IsValidOrder}
 use Rattle.pq_tree.specs.Outline.{Outline, IsFrontier}
 use Rattle.pq_tree.specs.Proper.{IsProper, universal}
 use Rattle.pq_tree.specs.Equivalent.{IsEquivalent}
-use Rattle.tied_law.specs.Tied.{IsTied}
-use Rattle.canonical_tree.specs.Laws.{IsCanonicalOver}
+use Rattle.tree_theory.specs.Tied.{IsTied}
+use Rattle.tree_theory.specs.CanonicalLaws.{IsCanonicalOver}
 use Rattle.tree_meet.specs.TreeRows.{rows_of_tree}
 use Rattle.tree_meet.specs.Meets.{IsCommon, joint_rows}
 

@@ -18,6 +18,6 @@ pub fn common_law()
     ensures either { EitherFirstLaw }
     ensures universal { UniversalMeetLaw }
 {
-    canonical_tree::canonical_tree_law();
-    canonical_tree::canonical_form_law();
+    tree_theory::canonical_tree_law();
+    tree_theory::canonical_form_law();
 }

@@ -7,7 +7,7 @@ use Rattle.row_model.specs.declared.graph.Pair.{Pair}
 use Rattle.row_model.specs.declared.graph.Why.TheVariants.{Flip, Row}
 use Rattle.row_model.specs.Graph.{pair, Joined, Evenly}
 use Rattle.row_model.proofs.Walks.{evenly-refl, evenly-sym, evenly-trans}
-use Rattle.tied_law.specs.Tied.{IsClosed}
+use Rattle.tree_theory.specs.Tied.{IsClosed}
 use Rattle.verdict_check.specs.Complete.{RunsFrom, IsOutside, pair_at}
 use Rattle.verdict_check.proofs.Places.{stands_has, has_stands, outside_has, outside_lacks}
 

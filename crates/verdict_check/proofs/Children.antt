@@ -12,9 +12,9 @@ use Rattle.pq_tree.specs.Proper.{outline_of, forest, HasArities, HaveArities}
 use Rattle.pq_tree.specs.declared.Tree.{Tree, P, Q}
 use Rattle.pq_tree.proofs.Forests.{forest_append, arities_join_right, leaves_of-join}
 use Rattle.pq_tree.proofs.Shown.{leaves_of_node, front_more}
-use Rattle.tied_law.specs.Tied.{IsForward}
+use Rattle.tree_theory.specs.Tied.{IsForward}
 use Rattle.verdict_check.specs.Complete.{RunsFrom}
-use Rattle.verdict_check.proofs.HoldsSteps.{rest_at}
+use Rattle.pq_tree.proofs.Shown.{rest_at}
 use Rattle.verdict_check.proofs.Places.{stands_left, stands_right}
 
 -- the columns of some trees of the program

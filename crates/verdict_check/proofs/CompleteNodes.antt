@@ -4,7 +4,7 @@ use Rattle.column_order.proofs.Lists.{has_cases}
 use Rattle.row_model.specs.declared.graph.Pair.{Pair}
 use Rattle.row_model.specs.Graph.{pair}
 use Rattle.pq_tree.specs.Outline.{Outline, Forest, leaf, p_node, q_node, no_tree, tree_and, leaves, leaves_of}
-use Rattle.tied_law.specs.Tied.{IsClosed, IsInLine}
+use Rattle.tree_theory.specs.Tied.{IsClosed, IsInLine}
 use Rattle.verdict_check.specs.Complete.{IsComplete, AreComplete}
 use Rattle.verdict_check.proofs.Alike.{IsSorting}
 

@@ -3,7 +3,7 @@ use Rattle.std.proofs.Common.{◌≡◌, ◌↔◌, ℕ, ◌+◌, ◌<◌, ◌�
 use Rattle.std.proofs.lemmas.Bool.{both_ways, cases_eq}
 use Rattle.row_model.specs.declared.graph.Pair.{Pair}
 use Rattle.row_model.specs.Graph.{Evenly}
-use Rattle.pair_classes.specs.Numbers.{Numbering}
+use Rattle.odd_cycle.specs.Numbers.{Numbering}
 use Rattle.verdict_check.specs.Complete.{InRows}
 
 -- what is told of two pairs is told of the same pairs

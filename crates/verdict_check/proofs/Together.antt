@@ -10,11 +10,11 @@ use Rattle.pq_tree.specs.Forests.{join}
 use Rattle.pq_tree.specs.Proper.{outline_of, forest, HasArities}
 use Rattle.pq_tree.specs.declared.Tree.{Tree}
 use Rattle.pq_tree.proofs.Nodes.{node_itself}
-use Rattle.tied_law.specs.Tied.{IsClosed, IsForward, IsInLine}
-use Rattle.pair_classes.specs.Numbers.{Numbering}
+use Rattle.tree_theory.specs.Tied.{IsClosed, IsForward, IsInLine}
+use Rattle.odd_cycle.specs.Numbers.{Numbering}
 use Rattle.verdict_check.specs.Complete.{InRows, IsComplete, AreComplete, RunsFrom, IsOutside, pair_at}
-use Rattle.verdict_check.proofs.HoldsSteps.{rest_at}
-use Rattle.verdict_check.proofs.GapPush.{long}
+use Rattle.pq_tree.proofs.Shown.{rest_at}
+use Rattle.pq_tree.proofs.Forests.{leaves_some}
 use Rattle.verdict_check.proofs.Places.{stands_left, stands_right, stands_has, has_stands}
 use Rattle.verdict_check.proofs.Alike.{evenly_sorts, AlikeUpTo, closed_from, closed_to, alike_more}
 use Rattle.verdict_check.proofs.CompleteNodes.{none_complete, and_complete, head_complete, tail_complete}
@@ -65,7 +65,7 @@ module _ (t : Numbering) (l : List ℕ) (ts : List Tree) (s i at end : ℕ) (chi
       InRows t (λ R. IsTrue gap ↔ (s < at → (j : ℕ) → j < length l → IsOutside s end j → R (pair_at l (at - 1) j) (pair_at l at j))) → gap ≡ true →
       InRows t (λ R. IsTrue done ↔ IsComplete R l (outline_of child)) → done ≡ true → InRows t (λ R. AlikeUpTo R l s end (at + length (leaves (outline_of child))))
   together_more gap done proper once alike g gt d dt = λ c rows tells.
-      let some : 1 ≤ length (leaves (outline_of child)) = long (outline_of child) proper in
+      let some : 1 ≤ length (leaves (outline_of child)) = leaves_some (outline_of child) proper in
       alike_more (Evenly c rows) l s end at (at + length (leaves (outline_of child))) (evenly_sorts c rows) (omega (arith, e)) (omega (arith, some)) (omega (arith, end_is, next_within l ts s i at child lt is h e))
       (alike c rows tells) ((g c rows tells).0 gt) (closed_to (Evenly c rows) l (leaves (outline_of child)) at (child_stands l ts s i at child lt is h e) once (((d c rows tells).0 dt).0 (outline_of child) (node_itself (outline_of child))))
 

@@ -3,8 +3,8 @@ use Rattle.std.specs.Prelude.{◌≡◌, ◌⊎◌, ℕ, ◌≤◌, ◌<◌, Lis
 use Rattle.row_model.specs.declared.graph.Pair.{Pair}
 use Rattle.row_model.specs.Graph.{pair, Evenly}
 use Rattle.pq_tree.specs.Outline.{Outline, Forest, q_node, leaves}
-use Rattle.tied_law.specs.Tied.{IsNode, IsNodeOf, IsClosed, IsInLine}
-use Rattle.pair_classes.specs.Numbers.{Numbering}
+use Rattle.tree_theory.specs.Tied.{IsNode, IsNodeOf, IsClosed, IsInLine}
+use Rattle.odd_cycle.specs.Numbers.{Numbering}
 use Rattle.pair_classes.specs.Classes.{TellsClasses}
 
 -- P holds of the walks of even length in whatever rows the classes tell

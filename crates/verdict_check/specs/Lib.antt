@@ -1,16 +1,1 @@
-pub mod Tests
-pub mod YesTests
-pub mod NoTests
-pub mod Accepted
-pub mod Truth
-pub mod Laws
-pub mod Exact
-pub mod Holds
-pub mod HoldsWalk
-pub mod Found
-pub mod Gaps
 pub mod Complete
-pub mod Core
-pub mod Chains
-pub mod Steps
-pub mod Checks

@@ -11,7 +11,7 @@ ghost use Rattle.column_order.specs.Orders.{IsOrder};
 ghost use Rattle.pq_tree.specs.Outline.{leaves, leaves_of};
 ghost use Rattle.pq_tree.specs.Proper.{outline_of, forest, HasArities, HaveArities};
 ghost use Rattle.pq_tree.specs.PqTree.{column_count, outline};
-ghost use Rattle.tied_law.specs.Tied.{AreTogether, AreInLine, IsClosed, IsInLine};
+ghost use Rattle.tree_theory.specs.Tied.{AreTogether, AreInLine, IsClosed, IsInLine};
 ghost use Rattle.pair_classes.specs.Classes.{TellsClasses};
 ghost use Rattle.verdict_check.specs.Complete.{InRows, IsComplete, AreComplete, RunsFrom, IsOutside, pair_at};
 

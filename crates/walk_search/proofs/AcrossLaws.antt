@@ -11,7 +11,7 @@ use Rattle.column_order.proofs.Lists.{has_at, place_at}
 use Rattle.open_gaps.specs.Gaps.{Opens}
 use Rattle.open_gaps.specs.Labels.{IsAlike, GapLaw}
 use Rattle.walk_search.specs.declared.forest.Node.{Node}
-use Rattle.pair_classes.specs.Numbers.{Numbering, IsIndexed, number_of}
+use Rattle.odd_cycle.specs.Numbers.{Numbering, IsIndexed, number_of}
 use Rattle.walk_search.specs.Search.{pair_of_node, root_node, IsReached, IsAcross}
 
 not_twice : (b : Bool) → not (not b) ≡ b

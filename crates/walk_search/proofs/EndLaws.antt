@@ -11,8 +11,8 @@ use Rattle.open_gaps.specs.Labels.{GapLaw}
 use Rattle.walk_search.specs.declared.forest.Node.{Node}
 use Rattle.walk_search.specs.declared.forest.Forest.{Forest}
 use Rattle.walk_search.specs.declared.neighbours.Neighbours.{Neighbours}
-use Rattle.pair_classes.specs.Numbers.{number_of, IsIndexed}
-use Rattle.pair_classes.specs.Marks.{Marking, is_marked}
+use Rattle.odd_cycle.specs.Numbers.{number_of, IsIndexed}
+use Rattle.odd_cycle.specs.Marks.{Marking, is_marked}
 use Rattle.walk_search.specs.Neighbours.{AreNeighbours}
 use Rattle.walk_search.specs.Search.{pair_of_node, IsReached, IsSettled, IsSearch, Grows, AreTaken, AreReachedFrom}
 use Rattle.walk_search.proofs.ForestLaws.{reached_grown}

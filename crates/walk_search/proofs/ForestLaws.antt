@@ -10,11 +10,11 @@ use Rattle.row_model.specs.Graph.{JoinedBy}
 use Rattle.row_model.proofs.CycleLaws.{joined_by_sym}
 use Rattle.walk_search.specs.declared.forest.Node.{Node}
 use Rattle.walk_search.specs.declared.forest.Forest.{Forest}
-use Rattle.pair_classes.specs.Numbers.{Numbering, IsIndexed}
-use Rattle.pair_classes.specs.Marks.{Marking}
+use Rattle.odd_cycle.specs.Numbers.{Numbering, IsIndexed}
+use Rattle.odd_cycle.specs.Marks.{Marking}
 use Rattle.walk_search.specs.Search.{pair_of_node, IsReached, Adds, Reaches, IsTree, AreJoined, IsSettled, IsForest, ShowsConflict, Grows, IsJoinedFrom, HasGrown, KeepsNodes, HasStepped}
-use Rattle.pair_classes.proofs.Items.{item_pushed, item_last, item_append, item_taken, item_take, item_at}
-use Rattle.pair_classes.proofs.NumberLaws.{indexed_same}
+use Rattle.odd_cycle.proofs.Items.{item_pushed, item_last, item_append, item_taken, item_take, item_at}
+use Rattle.odd_cycle.proofs.NumberLaws.{indexed_same}
 
 not_not : (b : Bool) → not (not b) ≡ b
 not_not true = refl

@@ -9,7 +9,7 @@ use Rattle.column_order.specs.Orders.{has}
 use Rattle.row_model.specs.Graph.{row_at}
 use Rattle.row_model.specs.Rows.{RowList}
 use Rattle.walk_search.specs.Holders.{holders_of, AreHolders}
-use Rattle.pair_classes.proofs.Items.{item_pushed, item_last, item_append, has_item, item_of}
+use Rattle.odd_cycle.proofs.Items.{item_pushed, item_last, item_append, has_item, item_of}
 
 -- the lists within the vectors
 abbrev pub lists_of : List (Vec ℕ Global) → List (List ℕ)

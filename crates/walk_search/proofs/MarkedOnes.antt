@@ -3,9 +3,9 @@ use Rattle.std.proofs.Common.{◌≡◌, ◌≢◌, ◌⊎◌, ◌∙◌, ℕ, s
 use Rattle.std.proofs.lemmas.Bool.{cases_eq, cases_Bool}
 use Rattle.std.proofs.lemmas.Option.{slice_get-get_or}
 use Rattle.row_model.specs.Graph.{row_at}
-use Rattle.pair_classes.specs.Marks.{Marking, is_marked, IsMarkedAt}
+use Rattle.odd_cycle.specs.Marks.{Marking, is_marked, IsMarkedAt}
 use Rattle.walk_search.specs.MarkedOnes.{sum_to, ones_at, marked_ones}
-use Rattle.pair_classes.proofs.RowOnes.{ones_more}
+use Rattle.odd_cycle.proofs.RowOnes.{ones_more}
 
 -- a sum depends on its items
 pub sum_to_same : (f g : ℕ → ℕ) (n : ℕ) → ((i : ℕ) → 1 ≤ i → i ≤ n → g i ≡ f i) → sum_to g n ≡ sum_to f n

@@ -8,7 +8,7 @@ use Rattle.row_model.specs.Graph.{row_at}
 use Rattle.row_model.specs.Rows.{RowList}
 use Rattle.open_gaps.specs.Gaps.{AreGaps}
 use Rattle.open_gaps.specs.Tables.{GapTable}
-use Rattle.pair_classes.specs.Marks.{Marking}
+use Rattle.odd_cycle.specs.Marks.{Marking}
 use Rattle.walk_search.specs.declared.neighbours.Neighbours.{Neighbours}
 use Rattle.walk_search.specs.MarkedOnes.{marked_ones, sum_to}
 use Rattle.walk_search.specs.Weights.{weight, most_weight}

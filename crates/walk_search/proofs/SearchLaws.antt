@@ -11,10 +11,10 @@ use Rattle.row_model.specs.Rows.{RowList}
 use Rattle.column_order.specs.Orders.{has}
 use Rattle.walk_search.specs.declared.forest.Node.{Node}
 use Rattle.walk_search.specs.declared.forest.Forest.{Forest}
-use Rattle.pair_classes.specs.Marks.{Marking, is_marked, IsMarkedAt}
+use Rattle.odd_cycle.specs.Marks.{Marking, is_marked, IsMarkedAt}
 use Rattle.walk_search.specs.Search.{IsReached, IsForest, IsReachedAlong, IsSpread, IsSearch, Grows, IsJoinedFrom, HasGrown, HasStepped}
 use Rattle.row_model.proofs.CycleLaws.{joined_more}
-use Rattle.pair_classes.proofs.Items.{item_of, has_item}
+use Rattle.odd_cycle.proofs.Items.{item_of, has_item}
 use Rattle.walk_search.proofs.ForestLaws.{reached_append, grown_there, grown_old, grown_reached, grown_refl, grown_trans}
 
 -- the pairs of b with the first columns of the row are reached

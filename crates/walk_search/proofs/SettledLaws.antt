@@ -13,12 +13,12 @@ use Rattle.open_gaps.specs.Tables.{GapTable}
 use Rattle.walk_search.specs.declared.forest.Node.{Node}
 use Rattle.walk_search.specs.declared.forest.Forest.{Forest}
 use Rattle.walk_search.specs.declared.neighbours.Neighbours.{Neighbours}
-use Rattle.pair_classes.specs.Numbers.{number_of}
-use Rattle.pair_classes.specs.Marks.{Marking, is_marked}
+use Rattle.odd_cycle.specs.Numbers.{number_of}
+use Rattle.odd_cycle.specs.Marks.{Marking, is_marked}
 use Rattle.walk_search.specs.Neighbours.{AreNeighbours}
 use Rattle.walk_search.specs.Weights.{IsJoining, TellsJoining}
 use Rattle.walk_search.specs.Search.{root_node, IsReached, Plants, IsSettled, IsSearch, Grows, IsAcross, IsTaken, AreTaken, AreReachedFrom}
-use Rattle.pair_classes.proofs.Items.{item_last}
+use Rattle.odd_cycle.proofs.Items.{item_last}
 use Rattle.row_model.proofs.Pairs.{same_pair}
 use Rattle.walk_search.proofs.ForestLaws.{reached_grown, reached_node, reached_once, grows_refl, grows_trans}
 use Rattle.walk_search.proofs.SearchLaws.{further_row}

@@ -10,10 +10,10 @@ use Rattle.open_gaps.specs.Tables.{GapTable}
 use Rattle.walk_search.specs.declared.forest.Node.{Node}
 use Rattle.walk_search.specs.declared.forest.Forest.{Forest}
 use Rattle.walk_search.specs.declared.neighbours.Neighbours.{Neighbours}
-use Rattle.pair_classes.specs.Marks.{Marking, is_marked}
+use Rattle.odd_cycle.specs.Marks.{Marking, is_marked}
 use Rattle.walk_search.specs.Holders.{holders_of, AreHolders, without}
 use Rattle.walk_search.specs.Search.{IsReached, IsForest, IsSearch, Grows, HasLeft, AreAcross, IsTaken, AreTaken}
-use Rattle.pair_classes.proofs.Items.{item_at}
+use Rattle.odd_cycle.proofs.Items.{item_at}
 use Rattle.walk_search.proofs.ForestLaws.{reached_append, reached_grown, grows_refl, grows_trans, grown_item, grown_long}
 use Rattle.walk_search.proofs.SearchLaws.{node_pair}
 

@@ -16,8 +16,8 @@ use Rattle.column_order.proofs.Lists.{place-inj, at_place}
 use Rattle.open_gaps.specs.Gaps.{IsAtOpenGap}
 use Rattle.open_gaps.specs.Labels.{GapLaw}
 use Rattle.open_gaps.specs.Tables.{GapTable}
-use Rattle.pair_classes.specs.Marks.{Marking}
-use Rattle.pair_classes.specs.Numbers.{number_of}
+use Rattle.odd_cycle.specs.Marks.{Marking}
+use Rattle.odd_cycle.specs.Numbers.{number_of}
 use Rattle.walk_search.specs.declared.forest.Node.{Node}
 use Rattle.walk_search.specs.declared.forest.Forest.{Forest}
 use Rattle.walk_search.specs.declared.neighbours.Neighbours.{Neighbours}

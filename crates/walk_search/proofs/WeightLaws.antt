@@ -16,15 +16,15 @@ use Rattle.row_model.specs.declared.graph.Why.{Why}
 use Rattle.row_model.specs.declared.graph.Why.TheVariants.{Flip, Row}
 use Rattle.row_model.specs.Graph.{pair, row_at, IsPair, JoinedBy}
 use Rattle.row_model.specs.Rows.{RowList}
-use Rattle.pair_classes.specs.Numbers.{Numbering, number_of, IsIndexed}
-use Rattle.pair_classes.proofs.Items.{item_at}
+use Rattle.odd_cycle.specs.Numbers.{Numbering, number_of, IsIndexed}
+use Rattle.odd_cycle.proofs.Items.{item_at}
 use Rattle.walk_search.specs.declared.forest.Node.{Node}
 use Rattle.walk_search.specs.declared.forest.Forest.{Forest}
 use Rattle.walk_search.specs.declared.neighbours.Neighbours.{Neighbours}
 use Rattle.walk_search.specs.MarkedOnes.{sum_to}
 use Rattle.walk_search.specs.Holders.{holders_of}
 use Rattle.walk_search.specs.Neighbours.{AreNeighbours}
-use Rattle.pair_classes.specs.Marks.{Marking}
+use Rattle.odd_cycle.specs.Marks.{Marking}
 use Rattle.walk_search.specs.Search.{pair_of_node, IsForest, Grows}
 use Rattle.walk_search.specs.Weights.{rows_with, held_for, weight, weights, most_weight, AreWeighty, IsWeighty, TellsJoining}
 use Rattle.walk_search.proofs.TakenLaws.{old_item}

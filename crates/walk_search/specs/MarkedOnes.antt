@@ -1,7 +1,7 @@
 -- The ones of the rows that are marked.
 use Rattle.std.specs.Prelude.{ℕ, zero, suc, ◌+◌, if◌then◌else◌, List, length}
 use Rattle.row_model.specs.Graph.{row_at}
-use Rattle.pair_classes.specs.Marks.{Marking, is_marked}
+use Rattle.odd_cycle.specs.Marks.{Marking, is_marked}
 
 -- the sum of f 1 to f n
 abbrev pub sum_to : (ℕ → ℕ) → ℕ → ℕ

@@ -12,10 +12,10 @@ use Rattle.open_gaps.specs.Tables.{GapTable}
 use Rattle.walk_search.specs.declared.forest.Node.{Node}
 use Rattle.walk_search.specs.declared.forest.Conflict.{Conflict}
 use Rattle.walk_search.specs.declared.forest.Forest.{Forest}
-use Rattle.pair_classes.specs.Numbers.{IsIndexed}
+use Rattle.odd_cycle.specs.Numbers.{IsIndexed}
 use Rattle.walk_search.specs.declared.neighbours.Neighbours.{Neighbours}
 use Rattle.walk_search.specs.Weights.{IsJoining}
-use Rattle.pair_classes.specs.Marks.{Marking, is_marked}
+use Rattle.odd_cycle.specs.Marks.{Marking, is_marked}
 
 abbrev pub pair_of_node : Node → Pair
 pair_of_node node = node.pair

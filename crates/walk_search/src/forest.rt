@@ -1,10 +1,10 @@
 // The pairs that the search has reached, each with the way by which it was reached.
 ghost use Rattle.std.specs.Prelude.{◌≡◌, ◌<◌, ◌≤◌, ℕ, List, [], length, IfOk, OnOk, MatchOption};
 ghost use Rattle.row_model.specs.Graph.{IsPair};
-ghost use Rattle.pair_classes.specs.Numbers.{IsIndexed, number_of};
+ghost use Rattle.odd_cycle.specs.Numbers.{IsIndexed, number_of};
 ghost use Rattle.walk_search.specs.Search.{pair_of_node, Adds, Plants, Reaches, IsForest, IsJoinedFrom, KeepsNodes, HasStepped, ShowsConflict};
 
-use pair_classes::PairNumbers;
+use odd_cycle::PairNumbers;
 use row_model::{COLUMN_BOUND, Line, NoMemory, Pair, Why};
 use std::alloc::Global;
 

@@ -10,7 +10,7 @@ ghost use Rattle.open_gaps.specs.Tables.{GapTable};
 ghost use Rattle.walk_search.specs.declared.forest.Node.{Node};
 ghost use Rattle.walk_search.specs.Neighbours.{AreNeighbours};
 ghost use Rattle.walk_search.specs.Weights.{TellsJoining};
-ghost use Rattle.pair_classes.specs.Numbers.{IsIndexed};
+ghost use Rattle.odd_cycle.specs.Numbers.{IsIndexed};
 ghost use Rattle.walk_search.specs.Search.{pair_of_node, IsForest, IsJoinedFrom, KeepsNodes, HasGrown, HasStepped, HasCrossed, HasLeft, ShowsConflict};
 
 use crate::forest::{Conflict, Forest};

@@ -11,8 +11,8 @@ use crate::input::{FileForm, pass_bytes, read_file, too_long, value_of};
 use crate::stop::Stop;
 use command_input::{InstanceReader, held_law};
 use commands::{instance_in, long_law};
+use file_io::{Shelf, Taker};
 use instance_model::Instance;
-use pq_io::{Shelf, Taker};
 use row_model::{Kind, MAX_FILE_BYTES, Read};
 use std::alloc::Global;
 

@@ -11,7 +11,7 @@ use std::alloc::Global;
 use std::process::Abort;
 use std::test::Fail;
 use step_count::{Ledger, Steps};
-use template_theory::Reducer;
+use tree_theory::Reducer;
 
 // The rows of a matrix, a digit for each column up to the last one, whether they have a valid order, and how the text of
 // the tree begins that is left.

@@ -1,7 +1,7 @@
 // Two reducers that are given the same rows.
 ghost use Rattle.std.specs.Prelude.{◌≡◌, ◌-◌, ◌<◌, ◌≤◌, length, take, IfOk, OnOk};
 ghost use Rattle.row_model.specs.Rows.{IsRow};
-ghost use Rattle.tied_law.specs.Tied.{IsTied};
+ghost use Rattle.tree_theory.specs.Tied.{IsTied};
 ghost use Rattle.arena_model.specs.NamedTree.{outline_at};
 ghost use Rattle.pq_plain.specs.Plain.{plain_columns, plain_outline};
 ghost use Rattle.reducer_tests.specs.Follows.{Follows};
@@ -16,7 +16,7 @@ use std::alloc::Global;
 use std::process::Abort;
 use std::test::Fail;
 use step_count::{Ledger, Steps};
-use template_theory::{Reducer, Step};
+use tree_theory::{Reducer, Step};
 
 // The reducers, the rows that both took, and the text of the canonical tree of both.
 #[derive(Drop)]

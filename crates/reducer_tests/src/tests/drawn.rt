@@ -8,7 +8,7 @@ use std::alloc::Global;
 use std::process::Abort;
 use std::test::Fail;
 use step_count::{Ledger, Steps};
-use template_theory::Step;
+use tree_theory::Step;
 
 const MATRICES: u32 = 2000;
 

@@ -11,7 +11,7 @@ use std::alloc::Global;
 use std::process::Abort;
 use std::test::Fail;
 use step_count::{Ledger, Steps};
-use template_theory::Reducer;
+use tree_theory::Reducer;
 
 // What becomes of a row.
 #[derive(Clone, Copy, Drop)]

@@ -8,7 +8,7 @@ use std::alloc::Global;
 use std::process::Abort;
 use std::test::Fail;
 use step_count::{Ledger, Steps};
-use template_theory::Step;
+use tree_theory::Step;
 
 // A row, a digit for each column, with what becomes of it and the tree after it.
 type Row = (&'static str, Step, &'static str);

@@ -1,6 +1,6 @@
 use Rattle.std.proofs.Common.{◌∙◌, [], refl, subst, arith}
 use Rattle.arena_model.specs.NamedTree.{outline_at}
-use Rattle.tied_law.specs.Tied.{IsTied}
+use Rattle.tree_theory.specs.Tied.{IsTied}
 use Rattle.c1p_solve.proofs.Rows.{no_value}
 use Rattle.c1p_solve.proofs.Sums.{weighs_little}
 use Rattle.c1p_solve.proofs.chosen.answer.Goals as goal

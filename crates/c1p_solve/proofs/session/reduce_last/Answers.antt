@@ -6,9 +6,9 @@ use Rattle.row_judge.specs.Blamed.{IsReason}
 use Rattle.pq_tree.specs.Amortised.{nodes_met}
 use Rattle.pq_tree.specs.Proper.{IsProper}
 use Rattle.pq_tree.proofs.Texts.{on_err}
-use Rattle.tied_law.specs.Tied.{IsTied}
-use Rattle.template_theory.specs.Frugal.{IsFrugal}
-use Rattle.template_theory.specs.declared.reducer.Step.TheVariants as step
+use Rattle.tree_theory.specs.Tied.{IsTied}
+use Rattle.tree_theory.specs.Frugal.{IsFrugal}
+use Rattle.tree_theory.specs.declared.reducer.Step.TheVariants as step
 use Rattle.arena_model.specs.Layout.{Layout}
 use Rattle.arena_model.specs.NamedTree.{outline_at}
 use Rattle.c1p_solve.proofs.Nodes.{refused_plainly, refused_with_cycle}

@@ -3,7 +3,7 @@ use Rattle.std.proofs.lemmas.List.{take_all}
 use Rattle.pq_tree.specs.Amortised.{weight}
 use Rattle.c1p_solve.proofs.Orders.{some_order, valid_front}
 use Rattle.row_model.specs.Graph.{row_at}
-use Rattle.template_theory.specs.Frugal.{IsFrugal}
+use Rattle.tree_theory.specs.Frugal.{IsFrugal}
 use Rattle.c1p_solve.specs.Totals.{reduction_steps, search_steps}
 use Rattle.c1p_solve.proofs.Sums.{IsPaidSoFar, all_taken, one_taken, one_refused, one_failed, first_steps, refused_cost}
 use Rattle.c1p_solve.proofs.solver.reduce_all.Goals as goal

@@ -1,7 +1,7 @@
 use Rattle.std.proofs.Common.{◌≡◌, ◌≤◌, take, IsTrue}
 use Rattle.column_order.specs.Orders.{HasValidOrder}
 use Rattle.pq_tree.specs.Amortised.{weight}
-use Rattle.tied_law.specs.Tied.{IsTied}
+use Rattle.tree_theory.specs.Tied.{IsTied}
 use Rattle.c1p_solve.proofs.Sums.{IsPaidSoFar}
 use Rattle.c1p_solve.proofs.solver.reduce_all.Given as goal
 

@@ -1,6 +1,6 @@
 use Rattle.std.proofs.Common.{◌≡◌, ◌∙◌, ℕ, sym, subst}
 use Rattle.pq_tree.specs.PqTree.{column_count}
-use Rattle.tied_law.specs.Tied.{IsTied}
+use Rattle.tree_theory.specs.Tied.{IsTied}
 use Rattle.c1p_solve.specs.Answers.{IsReduction, IsReducedInTurn}
 use Rattle.c1p_solve.specs.Totals.{IsTotal, IsReductionTotal}
 use Rattle.c1p_solve.proofs.Orders.{tied_orders}

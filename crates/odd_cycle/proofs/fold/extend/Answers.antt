@@ -1,7 +1,7 @@
 use Rattle.std.proofs.Common.{◌≡◌, ◌+◌, ◌∷◌, [], ◌++◌, length, arith}
 use Rattle.std.proofs.lemmas.Grind.{common_steps}
 use Rattle.odd_cycle.specs.Short.{columns_of}
-use Rattle.pair_classes.proofs.NumberLaws.{indexed_push, indexed_few}
+use Rattle.odd_cycle.proofs.NumberLaws.{indexed_push, indexed_few}
 use Rattle.odd_cycle.proofs.PairLaws.{lesser_pair}
 use Rattle.odd_cycle.proofs.fold.extend.Goals as goal
 

@@ -4,7 +4,7 @@ use Rattle.std.proofs.lemmas.Result.{IfOk-weaker}
 use Rattle.row_model.specs.declared.graph.Pair.{Pair}
 use Rattle.row_model.specs.declared.graph.Line.{Line}
 use Rattle.row_model.specs.Cycles.{IsClosedWalk, IsOdd, IsOddCycle}
-use Rattle.pair_classes.specs.Numbers.{number_of, IsIndexed}
+use Rattle.odd_cycle.specs.Numbers.{number_of, IsIndexed}
 use Rattle.odd_cycle.specs.Fold.{closing, IsPlaceOf, TellsTurned}
 use Rattle.odd_cycle.specs.Short.{one_if, turned_if, lesser_first, columns_of, IsShort, IsNamedBy}
 use Rattle.odd_cycle.proofs.CycleLength.{blank}

@@ -4,9 +4,9 @@ use Rattle.std.specs.Vec.{with_items}
 use Rattle.std.proofs.lemmas.List.{with_items_is}
 use Rattle.std.proofs.lemmas.Option.{slice_get-get_or}
 use Rattle.row_model.specs.Graph.{row_at}
-use Rattle.pair_classes.specs.Numbers.{Numbering}
+use Rattle.odd_cycle.specs.Numbers.{Numbering}
 use Rattle.pair_classes.specs.Classes.{TellsClasses}
-use Rattle.pair_classes.proofs.RowOnes.{ones_more}
+use Rattle.odd_cycle.proofs.RowOnes.{ones_more}
 use Rattle.pair_classes.proofs.ClassLaws.{IsClassing, classing_none, classing_more, classes_told}
 use Rattle.pair_classes.proofs.classes.classes_of.Goals as goal
 

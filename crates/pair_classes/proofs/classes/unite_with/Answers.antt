@@ -1,8 +1,8 @@
 use Rattle.std.proofs.Common.{◌≡◌, ◌∙◌, ◌≤◌, ℕ, length, slice_get, Some, ap, sym, subst, arith}
 use Rattle.std.proofs.lemmas.Option.{slice_get_within}
 use Rattle.row_model.specs.Graph.{pair, row_at, IsPair}
-use Rattle.pair_classes.specs.Numbers.{place_of}
-use Rattle.pair_classes.proofs.Items.{has_item, item_end, none_of}
+use Rattle.odd_cycle.specs.Numbers.{place_of}
+use Rattle.odd_cycle.proofs.Items.{has_item, item_end, none_of}
 use Rattle.pair_classes.proofs.ClassLaws.{IsUniting, uniting_more, uniting_all, row_pair}
 use Rattle.pair_classes.proofs.classes.unite_with.Given as given
 use Rattle.pair_classes.proofs.classes.unite_with.Goals as goal

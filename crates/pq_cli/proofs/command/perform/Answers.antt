@@ -1,7 +1,7 @@
 use Rattle.std.proofs.Common.{◌≡◌, ℕ, List, [], ◌∷◌, refl, inl, sym, subst, arith, rules}
 use Rattle.std.specs.Prelude.{Ok}
 use Rattle.std.specs.declared.alloc.AllocError.{AllocError}
-use Rattle.pq_io.specs.Whole.{IsWhole}
+use Rattle.file_io.specs.Whole.{IsWhole}
 use Rattle.row_model.specs.Rows.{RowList}
 use Rattle.row_model.specs.declared.kind.Kind.TheVariants.{Proper}
 use Rattle.instance_model.specs.Instance.{plain, proper}
@@ -17,7 +17,7 @@ use Rattle.solve_replies.specs.Cores.{IsCoreReply}
 use Rattle.solve_replies.specs.Generated.{generated}
 use Rattle.solve_replies.specs.Lists.{IsListReply}
 use Rattle.solve_replies.specs.Models.{IsModelReply}
-use Rattle.reply_laws.specs.Replies.{Replies}
+use Rattle.pq_cli.specs.Replies.{Replies}
 use Rattle.pq_cli.proofs.Frame.{memory_alone, reply_alone}
 use Rattle.solve_replies.specs.Steps.{SolvesMatrixWithin, SolvesWithin, FindsCoreWithin}
 use Rattle.pq_cli.specs.Over.{IsOverInstance}

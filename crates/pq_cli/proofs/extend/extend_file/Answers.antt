@@ -5,7 +5,7 @@ use Rattle.instance_model.specs.Value.{instance_value}
 use Rattle.command_input.specs.Words.{Extend}
 use Rattle.command_input.specs.Instances.{ReadsInstance, HoldsInstance, IsInstanceOf}
 use Rattle.pq_cli.specs.Further.{ReadsFurther, HoldsFurther}
-use Rattle.reply_laws.specs.Replies.{refused_at, Replies}
+use Rattle.pq_cli.specs.Replies.{refused_at, Replies}
 use Rattle.pq_cli.proofs.Frame.{first_stops, second_stops, memory_after_two, reply_after_two}
 use Rattle.solve_replies.specs.Charges.{ExtendsWithin}
 use Rattle.pq_cli.specs.Stops.{reply_status}

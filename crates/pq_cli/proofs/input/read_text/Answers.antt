@@ -1,4 +1,4 @@
-use Rattle.pq_io.specs.Whole.{IsWhole}
+use Rattle.file_io.specs.Whole.{IsWhole}
 use Rattle.row_model.specs.declared.refusal.Read.TheVariants as read
 use Rattle.pq_cli.specs.Reading.{ReadsBytes, IsRead}
 use Rattle.pq_cli.proofs.Takings.{read_by_form}

@@ -9,7 +9,7 @@ use Rattle.pq_tree.specs.PqTree.{column_count, outline}
 use Rattle.command_input.specs.Words.{Meet}
 use Rattle.command_input.specs.TreeFiles.{tree_file, ReadsTree, HoldsTree}
 use Rattle.commands.specs.Meetings.{IsMeetingReply}
-use Rattle.reply_laws.specs.Replies.{refused_at, refused_of_two, Replies}
+use Rattle.pq_cli.specs.Replies.{refused_at, refused_of_two, Replies}
 use Rattle.pq_cli.specs.Stops.{reply_status}
 use Rattle.pq_cli.proofs.Frame.{first_stops, second_stops, memory_after_two, reply_after_two}
 use Rattle.pq_cli.proofs.Counts.{counts_none, reply_after, memory_status, memory_comes_after, counts_after_two}

@@ -1,7 +1,7 @@
 use Rattle.std.proofs.Common.{[], ◌∷◌, ◌∙◌, refl, sym, ap}
 use Rattle.std.specs.Prelude.{Ok}
 use Rattle.command_input.specs.Instances.{ReadsInstance, HoldsInstance}
-use Rattle.reply_laws.specs.Replies.{refused_at}
+use Rattle.pq_cli.specs.Replies.{refused_at}
 use Rattle.pq_cli.specs.Reading.{ReadsBytes, IsRead}
 use Rattle.pq_cli.proofs.Frame.{first_stops, second_stops, memory_after_two, reply_after_two}
 use Rattle.pq_cli.proofs.over.over_both.Goals as goal

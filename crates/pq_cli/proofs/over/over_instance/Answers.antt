@@ -1,7 +1,7 @@
 use Rattle.std.proofs.Common.{[], ◌∷◌, ◌∙◌, refl, sym, ap}
 use Rattle.std.specs.Prelude.{Ok, Err}
 use Rattle.command_input.specs.Instances.{ReadsInstance, HoldsInstance}
-use Rattle.reply_laws.specs.Replies.{refused_at}
+use Rattle.pq_cli.specs.Replies.{refused_at}
 use Rattle.pq_cli.proofs.Frame.{first_stops, memory_after_one, reply_after_one}
 use Rattle.pq_cli.proofs.Counts.{counts_none, reply_after, counts_after_one, counts_after_memory}
 use Rattle.pq_cli.proofs.over.over_instance.Goals as goal

@@ -1,6 +1,6 @@
 use Rattle.std.proofs.Common.{refl, subst}
 use Rattle.std.specs.Io.KnownBytes.{Appends}
-use Rattle.pq_io.specs.Sink.{AppendsPrefix}
+use Rattle.file_io.specs.Sink.{AppendsPrefix}
 use Rattle.command_input.specs.Words.{texts, command_of}
 use Rattle.command_input.specs.Task.{command_seen}
 use Rattle.pq_cli.proofs.Decided.{outside_so, stopped_so, written_so, cut_short_so}

@@ -1,5 +1,5 @@
 use Rattle.pq_plain.proofs.Counted.{counted}
-use Rattle.template_theory.proofs.Finding.{p_root_finds}
+use Rattle.tree_theory.proofs.Finding.{p_root_finds}
 use Rattle.std.proofs.Common.{None}
 use Rattle.pq_plain.specs.Seen.{outlines}
 use Rattle.pq_plain.proofs.RootMade.{p_many, p_unchanged, p_no_full, p_lone, p_two, p_four, p_six}

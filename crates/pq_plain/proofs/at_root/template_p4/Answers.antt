@@ -1,5 +1,5 @@
 use Rattle.std.proofs.Common.{◌∙◌, ap}
-use Rattle.template_theory.specs.Templates.{under}
+use Rattle.tree_theory.specs.Templates.{under}
 use Rattle.pq_plain.specs.Seen.{outlines}
 use Rattle.pq_plain.proofs.Pieces.{appended, node_Q}
 use Rattle.pq_plain.proofs.at_root.template_p4.Goals as goal

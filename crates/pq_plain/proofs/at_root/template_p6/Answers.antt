@@ -1,5 +1,5 @@
 use Rattle.std.proofs.Common.{◌∙◌, ap}
-use Rattle.template_theory.specs.Templates.{line, star, under}
+use Rattle.tree_theory.specs.Templates.{line, star, under}
 use Rattle.pq_tree.specs.Forests.{back}
 use Rattle.pq_tree.proofs.Forests.{join_assoc}
 use Rattle.pq_plain.specs.Seen.{outlines, halves_seen}

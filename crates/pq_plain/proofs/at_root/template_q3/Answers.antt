@@ -1,5 +1,5 @@
 use Rattle.std.proofs.Common.{◌∙◌, refl, option_map}
-use Rattle.template_theory.specs.Templates.{line_if}
+use Rattle.tree_theory.specs.Templates.{line_if}
 use Rattle.pq_tree.specs.Forests.{back}
 use Rattle.pq_plain.specs.Seen.{outlines, halves_seen}
 use Rattle.pq_plain.proofs.Pieces.{appended, five_parts, turned_line, node_Q}

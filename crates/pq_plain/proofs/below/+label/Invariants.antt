@@ -1,5 +1,5 @@
 use Rattle.std.proofs.Common.{map, take}
-use Rattle.template_theory.specs.Reduced.{AreLabels}
+use Rattle.tree_theory.specs.Reduced.{AreLabels}
 use Rattle.pq_plain.specs.Seen.{outlines, label_seen}
 use Rattle.pq_plain.proofs.below.+label.Given as goal
 

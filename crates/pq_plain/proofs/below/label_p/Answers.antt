@@ -1,7 +1,7 @@
 use Rattle.std.proofs.Common.{◌∙◌, Some, None, sym}
 use Rattle.pq_plain.specs.Seen.{outlines}
 use Rattle.pq_plain.proofs.Counted.{IsCounted, counted, p_all_full, p_all_empty, p_three, last_of_one, p_five, p_many}
-use Rattle.template_theory.proofs.Finding.{p_finds}
+use Rattle.tree_theory.proofs.Finding.{p_finds}
 use Rattle.pq_plain.proofs.Marks.{marks_long}
 use Rattle.pq_plain.proofs.below.label_p.Goals as goal
 

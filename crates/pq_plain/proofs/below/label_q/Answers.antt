@@ -1,6 +1,6 @@
 use Rattle.std.proofs.Common.{refl}
 use Rattle.std.proofs.lemmas.Result.{IfOk-weaker}
-use Rattle.template_theory.proofs.Finding.{q_finds}
+use Rattle.tree_theory.proofs.Finding.{q_finds}
 use Rattle.pq_plain.proofs.Marks.{marks_long}
 use Rattle.pq_plain.proofs.Runs.{to_end}
 use Rattle.pq_plain.proofs.QLabels.{q_all_full, q_all_empty, left_none, left_few, left_label}

@@ -1,5 +1,5 @@
 use Rattle.std.proofs.Common.{map, rules, arith}
-use Rattle.template_theory.specs.Labels.{partials}
+use Rattle.tree_theory.specs.Labels.{partials}
 use Rattle.pq_plain.specs.Seen.{label_seen}
 use Rattle.pq_plain.proofs.Cutting.{run_label_is}
 use Rattle.pq_plain.proofs.QLabels.{no_halves, q_empty, q_plain, q_cut, last_of_few}

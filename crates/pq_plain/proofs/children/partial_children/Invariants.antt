@@ -1,5 +1,5 @@
 use Rattle.std.proofs.Common.{◌≡◌, map}
-use Rattle.template_theory.specs.Labels.{partials}
+use Rattle.tree_theory.specs.Labels.{partials}
 use Rattle.pq_plain.specs.Seen.{halves_seen, label_seen}
 use Rattle.pq_plain.proofs.children.partial_children.Given as goal
 

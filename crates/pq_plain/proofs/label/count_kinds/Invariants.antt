@@ -1,5 +1,5 @@
 use Rattle.std.proofs.Common.{◌≡◌, ◌≤◌, map, take, length}
-use Rattle.template_theory.specs.Labels.{partials}
+use Rattle.tree_theory.specs.Labels.{partials}
 use Rattle.pq_plain.specs.Seen.{label_seen, empties, fulls}
 use Rattle.pq_plain.proofs.label.count_kinds.Given as goal
 

@@ -3,7 +3,7 @@ use Rattle.std.proofs.lemmas.Bool.{false≢true}
 use Rattle.arena_model.specs.declared.Shape.TheVariants.{Leaf, P, Q}
 use Rattle.arena_model.specs.Layout.{Layout, shape_at}
 use Rattle.bubble_pass.specs.Marks.{Marks}
-use Rattle.template_theory.specs.Templates.{Label}
+use Rattle.tree_theory.specs.Templates.{Label}
 use Rattle.templates_p.specs.Fits.{FitsP1, FitsP2, FitsP3, FitsP4, FitsP5, FitsP6}
 use Rattle.row_reduce.specs.declared.template.Template.{Template}
 use Rattle.row_reduce.specs.declared.template.Template.TheVariants.{L1, P1, P2, P3, P4, P5, P6, Q1, Q2, Q3}

@@ -3,7 +3,7 @@ use Rattle.std.proofs.lemmas.Bool.{false≢true}
 use Rattle.arena_model.specs.declared.Shape.TheVariants.{Leaf, P, Q}
 use Rattle.arena_model.specs.Layout.{Layout, shape_at}
 use Rattle.bubble_pass.specs.Marks.{Marks}
-use Rattle.template_theory.specs.Templates.{Label}
+use Rattle.tree_theory.specs.Templates.{Label}
 use Rattle.templates_q.specs.Fits.{FitsQ1, FitsQ2, FitsQ3}
 use Rattle.templates_q.specs.Span.{IsRunMeant}
 use Rattle.row_reduce.specs.declared.template.Template.{Template}

@@ -5,7 +5,7 @@ use Rattle.arena_model.specs.NamedTree.{outline_at}
 use Rattle.row_model.specs.Graph.{row_at}
 use Rattle.pq_arena.specs.RowNodes.{column_leaves}
 use Rattle.full_pass.specs.Answer.{IsRowKept}
-use Rattle.template_theory.specs.declared.reducer.Step.TheVariants.{Refused}
+use Rattle.tree_theory.specs.declared.reducer.Step.TheVariants.{Refused}
 use Rattle.row_reduce.specs.Outcome.{IsOutcome}
 use Rattle.row_reduce.proofs.Unmoved.{taken_kept}
 use Rattle.row_reduce.proofs.Taking.{split_refused}

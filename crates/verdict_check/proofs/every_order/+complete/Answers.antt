@@ -4,15 +4,15 @@ use Rattle.column_order.proofs.Counts.{order_once}
 use Rattle.pq_tree.specs.declared.Tree.TheViews.{the_lemmas}
 use Rattle.pq_tree.specs.Outline.{leaves, p_node, q_node}
 use Rattle.pq_tree.specs.declared.Tree.{Tree}
-use Rattle.tied_law.specs.Tied.{IsInLine}
+use Rattle.tree_theory.specs.Tied.{IsInLine}
 use Rattle.pq_tree.specs.Proper.{outline_of, forest, HasArities}
 use Rattle.pq_tree.proofs.Shown.{outline_of-Leaf}
 use Rattle.row_model.specs.Graph.{Evenly}
 use Rattle.verdict_check.specs.Complete.{IsComplete, RunsFrom}
-use Rattle.verdict_check.proofs.GapPush.{long}
+use Rattle.pq_tree.proofs.Forests.{leaves_some}
 use Rattle.verdict_check.proofs.Places.{stands_long}
 use Rattle.verdict_check.proofs.Alike.{evenly_sorts}
-use Rattle.verdict_check.proofs.HoldsSteps.{outline_p, outline_q}
+use Rattle.pq_tree.proofs.Shown.{outline_p, outline_q}
 use Rattle.verdict_check.proofs.Children.{columns_of, child_long, child_arities, child_stands, next_at, next_within}
 use Rattle.verdict_check.proofs.CompleteNodes.{leaf_complete, p_complete, q_complete}
 use Rattle.verdict_check.proofs.Together.{together_more, rest_more, apart_fails, child_fails, together_all}
@@ -24,7 +24,7 @@ are_together_at-is_joined_at-requires-clause-place t c = (
   omega (
     arith,
     c.leaf_counts.ensures,
-    long (outline_of c.child-item.result) (child_arities c.args.children.now c.loop-child.child-index c.child-item.result c.loop-child-test.true c.child-item.is c.requires.proper),
+    leaves_some (outline_of c.child-item.result) (child_arities c.args.children.now c.loop-child.child-index c.child-item.result c.loop-child-test.true c.child-item.is c.requires.proper),
     next_within c.args.line.now c.args.children.now c.args.start c.loop-child.child-index c.loop-child.at c.child-item.result c.loop-child-test.true c.child-item.is c.requires.place c.loop-child.invariant.at_is,
   ),
   omega (arith, c.leaf_counts.ensures, stands_long c.args.line.now (columns_of c.args.children.now) c.args.start c.requires.place),
@@ -37,7 +37,7 @@ are_together_at-returns-then-not-is_joined_at t c =
     (omega (
       arith,
       c.leaf_counts.ensures,
-      long (outline_of c.child-item.result) (child_arities c.args.children.now c.loop-child.child-index c.child-item.result c.loop-child-test.true c.child-item.is c.requires.proper),
+      leaves_some (outline_of c.child-item.result) (child_arities c.args.children.now c.loop-child.child-index c.child-item.result c.loop-child-test.true c.child-item.is c.requires.proper),
       next_within c.args.line.now c.args.children.now c.args.start c.loop-child.child-index c.loop-child.at c.child-item.result c.loop-child-test.true c.child-item.is c.requires.place c.loop-child.invariant.at_is,
     ))
     (order_once c.args.classes.now.columns c.args.line.now c.requires.line) c.is_joined_at.ensures c.if-not-is_joined_at.true

@@ -1,7 +1,7 @@
 use Rattle.std.proofs.Common.{◌≡◌, ◌+◌, ◌-◌, length, map, take, drop}
 use Rattle.row_model.specs.declared.graph.Pair.{Pair}
 use Rattle.pq_tree.specs.Proper.{outline_of, forest}
-use Rattle.tied_law.specs.Tied.{IsForward}
+use Rattle.tree_theory.specs.Tied.{IsForward}
 use Rattle.verdict_check.specs.Complete.{InRows, pair_at}
 use Rattle.verdict_check.proofs.Children.{columns_of}
 use Rattle.verdict_check.proofs.every_order.are_in_line_at.Given as goal

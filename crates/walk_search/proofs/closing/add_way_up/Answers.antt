@@ -4,7 +4,7 @@ use Rattle.std.proofs.lemmas.List.{append-nil, append_assoc}
 use Rattle.row_model.specs.declared.graph.Line.{Line}
 use Rattle.walk_search.specs.Closing.{IsWay}
 use Rattle.walk_search.specs.declared.forest.Node.{Node}
-use Rattle.pair_classes.proofs.Items.{item_at}
+use Rattle.odd_cycle.proofs.Items.{item_at}
 use Rattle.walk_search.proofs.ClosingLaws.{way_none, way_on}
 use Rattle.walk_search.proofs.closing.add_way_up.Goals as goal
 

@@ -5,7 +5,7 @@ use Rattle.std.proofs.lemmas.Option.{slice_get_read}
 use Rattle.row_model.specs.declared.graph.Line.{Line}
 use Rattle.walk_search.specs.Closing.{IsWay}
 use Rattle.walk_search.specs.declared.forest.Node.{Node}
-use Rattle.pair_classes.proofs.Items.{item_at}
+use Rattle.odd_cycle.proofs.Items.{item_at}
 use Rattle.walk_search.proofs.ClosingLaws.{way_none, way_before}
 use Rattle.walk_search.proofs.closing.way_down.Goals as goal
 

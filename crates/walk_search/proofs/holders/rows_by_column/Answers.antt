@@ -5,8 +5,8 @@ use Rattle.std.proofs.lemmas.Option.{slice_get_within}
 use Rattle.row_model.specs.Graph.{row_at}
 use Rattle.walk_search.specs.Holders.{without, AreHolders}
 use Rattle.walk_search.proofs.HolderLaws.{lists_of, HoldersSoFar, holders_none, holders_begin, holders_end, holders_more, further_same, further_member, further_there, ones_part}
-use Rattle.pair_classes.proofs.Items.{item_end, none_of}
-use Rattle.pair_classes.proofs.RowOnes.{ones_more}
+use Rattle.odd_cycle.proofs.Items.{item_end, none_of}
+use Rattle.odd_cycle.proofs.RowOnes.{ones_more}
 use Rattle.walk_search.proofs.holders.rows_by_column.Goals as goal
 use Rattle.std.proofs.lemmas.Result.{IfOk-from_err}
 

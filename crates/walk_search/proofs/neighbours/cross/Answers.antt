@@ -3,7 +3,7 @@ use Rattle.std.proofs.lemmas.Option.{slice_get_read}
 use Rattle.std.proofs.lemmas.Result.{IfOk-weaker}
 use Rattle.row_model.specs.Graph.{IsPair}
 use Rattle.walk_search.specs.declared.forest.Node.{Node}
-use Rattle.pair_classes.proofs.Items.{none_of}
+use Rattle.odd_cycle.proofs.Items.{none_of}
 use Rattle.walk_search.proofs.ForestLaws.{grown_there}
 use Rattle.walk_search.proofs.LeavingLaws.{line_pair, line_from, crossed_found}
 use Rattle.walk_search.proofs.neighbours.cross.Goals as goal

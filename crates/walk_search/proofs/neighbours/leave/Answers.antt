@@ -2,7 +2,7 @@ use Rattle.std.proofs.Common.{◌≡◌, ◌≤◌, Some, length, slice_get, ref
 use Rattle.std.proofs.lemmas.Option.{slice_get_read}
 use Rattle.std.proofs.lemmas.Result.{IfOk-weaker}
 use Rattle.walk_search.specs.declared.forest.Node.{Node}
-use Rattle.pair_classes.proofs.Items.{none_of}
+use Rattle.odd_cycle.proofs.Items.{none_of}
 use Rattle.walk_search.proofs.LeavingLaws.{flips, left_none, left_found}
 use Rattle.walk_search.proofs.neighbours.leave.Goals as goal
 

@@ -10,7 +10,7 @@ use Rattle.walk_search.specs.declared.forest.Node.{Node}
 use Rattle.walk_search.specs.Holders.{holders_of}
 use Rattle.walk_search.specs.Search.{IsReached, ShowsConflict}
 use Rattle.walk_search.specs.Weights.{held_for, weight}
-use Rattle.pair_classes.proofs.Items.{none_of}
+use Rattle.odd_cycle.proofs.Items.{none_of}
 use Rattle.walk_search.proofs.HolderLaws.{lists_of, holder_at}
 use Rattle.walk_search.proofs.ForestLaws.{grown_item}
 use Rattle.walk_search.proofs.SearchLaws.{joined_front}

@@ -3,8 +3,8 @@ use Rattle.walk_search.specs.MarkedOnes.{marked_ones}
 use Rattle.walk_search.specs.Neighbours.{AreNeighbours}
 use Rattle.walk_search.specs.Weights.{weights, most_weight, IsWeighty}
 use Rattle.walk_search.specs.Search.{pair_of_node, ShowsConflict}
-use Rattle.pair_classes.proofs.Items.{none_of, item_at}
-use Rattle.pair_classes.proofs.NumberLaws.{indexed_room, indexed_few}
+use Rattle.odd_cycle.proofs.Items.{none_of, item_at}
+use Rattle.odd_cycle.proofs.NumberLaws.{indexed_room, indexed_few}
 use Rattle.walk_search.proofs.TakenLaws.{growing_more, growing_all, growing_none}
 use Rattle.walk_search.proofs.ForestLaws.{grown_long}
 use Rattle.walk_search.proofs.WeightLaws.{node_weighty, weights_more, weights_same, weights_part, weights_most, weighty_grown}

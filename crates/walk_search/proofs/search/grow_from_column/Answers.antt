@@ -7,7 +7,7 @@ use Rattle.walk_search.specs.declared.forest.Node.{Node}
 use Rattle.walk_search.specs.Neighbours.{AreNeighbours}
 use Rattle.walk_search.specs.Search.{root_node, ShowsConflict, AreReachedFrom}
 use Rattle.walk_search.specs.Weights.{weights, AreWeighty}
-use Rattle.pair_classes.proofs.Items.{none_of, item_last}
+use Rattle.odd_cycle.proofs.Items.{none_of, item_last}
 use Rattle.walk_search.proofs.SettledLaws.{grown_from_none, grown_from_same, grown_from_idle, grown_from_reached, grown_from_tree, planted_search, planted_taken}
 use Rattle.walk_search.proofs.WeightLaws.{all_most}
 use Rattle.walk_search.proofs.search.grow_from_column.Given as given

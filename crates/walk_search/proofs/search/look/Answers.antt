@@ -6,8 +6,8 @@ use Rattle.row_model.specs.Graph.{pair, row_at, IsPair}
 use Rattle.walk_search.specs.declared.forest.Node.{Node}
 use Rattle.walk_search.specs.MarkedOnes.{marked_ones}
 use Rattle.walk_search.specs.Search.{IsSearch, IsReachedAlong, Grows}
-use Rattle.pair_classes.specs.Marks.{is_marked}
-use Rattle.pair_classes.proofs.Items.{held_some, item_end, none_of}
+use Rattle.odd_cycle.specs.Marks.{is_marked}
+use Rattle.odd_cycle.proofs.Items.{held_some, item_end, none_of}
 use Rattle.walk_search.proofs.MarkedOnes.{marked_again, marked_anew}
 use Rattle.walk_search.proofs.ForestLaws.{grown_refl, grown_there}
 use Rattle.walk_search.proofs.HolderLaws.{further_member}

@@ -7,7 +7,7 @@ use Rattle.row_model.specs.Cycles.{IsOddWalk}
 use Rattle.walk_search.specs.MarkedOnes.{marked_ones, sum_to}
 use Rattle.walk_search.specs.Weights.{weight, weights, most_weight, TellsJoining}
 use Rattle.walk_search.specs.Neighbours.{AreNeighbours}
-use Rattle.pair_classes.proofs.Items.{none_of}
+use Rattle.odd_cycle.proofs.Items.{none_of}
 use Rattle.walk_search.proofs.EndLaws.{IsSearched, searched_none, searched_idle, searched_again, searched_more, searched_all}
 use Rattle.walk_search.proofs.NearLaws.{bounded, squared, fewer}
 use Rattle.walk_search.proofs.WeightLaws.{tried_more, tried_part, all_most}

@@ -4,7 +4,7 @@ use Rattle.column_order.specs.Orders.{has}
 use Rattle.row_model.specs.Graph.{row_at, HasOddWalk}
 use Rattle.row_model.specs.Cycles.{IsOddWalk}
 use Rattle.walk_search.specs.Neighbours.{AreNeighbours}
-use Rattle.pair_classes.proofs.Items.{none_of, item_end, has_item}
+use Rattle.odd_cycle.proofs.Items.{none_of, item_end, has_item}
 use Rattle.walk_search.proofs.HolderLaws.{further_same}
 use Rattle.walk_search.proofs.WeightLaws.{row_weighty}
 use Rattle.walk_search.proofs.NearLaws.{followed, fewer}

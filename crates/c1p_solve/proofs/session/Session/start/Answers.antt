@@ -1,6 +1,6 @@
 use Rattle.std.proofs.Common.{◌∙◌, [], refl, subst, arith}
 use Rattle.arena_model.specs.NamedTree.{outline_at}
-use Rattle.tied_law.specs.Tied.{IsTied}
+use Rattle.tree_theory.specs.Tied.{IsTied}
 use Rattle.c1p_solve.specs.Answers.{IsReduction, IsReducedInTurn}
 use Rattle.c1p_solve.specs.Totals.{IsReductionTotal}
 use Rattle.c1p_solve.proofs.Rows.{no_value}

@@ -4,7 +4,7 @@ use Rattle.std.proofs.lemmas.Bool.{false≢true}
 use Rattle.arena_model.specs.NamedTree.{outline_at}
 use Rattle.pq_tree.proofs.Texts.{on_err}
 use Rattle.row_model.specs.Rows.{RowList}
-use Rattle.tied_law.specs.Tied.{IsTied}
+use Rattle.tree_theory.specs.Tied.{IsTied}
 use Rattle.c1p_solve.specs.Sessions.{SessionValue, IsSession, with_row}
 use Rattle.c1p_solve.specs.Taking.{StandsAfter}
 use Rattle.c1p_solve.specs.declared.session.Taken.TheVariants as taken

@@ -1,5 +1,5 @@
 use Rattle.std.proofs.Common.{ap}
-use Rattle.pq_io.specs.Faults.{one_more}
+use Rattle.file_io.specs.Faults.{one_more}
 use Rattle.memory_run.proofs.Names.{read_keeps}
 use Rattle.memory_run.proofs.files.HandedOverShelf.read.Goals as goal
 

@@ -1,6 +1,6 @@
 use Rattle.std.proofs.Common.{◌≡◌, ◌∙◌, eqb-true, eq-eqb, ap, sym, subst}
 use Rattle.row_model.specs.Graph.{IsPair}
-use Rattle.pair_classes.specs.Numbers.{Numbering, number_of}
+use Rattle.odd_cycle.specs.Numbers.{Numbering, number_of}
 use Rattle.pair_classes.proofs.classes.Classes.same.Goals as goal
 
 pub returns : goal.returns

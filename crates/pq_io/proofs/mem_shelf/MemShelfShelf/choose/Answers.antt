@@ -1,5 +1,5 @@
 use Rattle.std.proofs.Common.{◌≡◌, false, is_none, ap, sym, rules}
-use Rattle.pq_io.specs.Faults.{one_more, is_to_fail}
+use Rattle.file_io.specs.Faults.{one_more, is_to_fail}
 use Rattle.pq_io.proofs.Files.{content_of-last, content_of-others, or_right, or_neither}
 use Rattle.pq_io.proofs.mem_shelf.MemShelfShelf.choose.Goals as goal
 

@@ -1,6 +1,6 @@
 use Rattle.std.proofs.Common.{[], ◌∙◌, sym, subst}
-use Rattle.tied_law.specs.Tied.{IsTied}
-use Rattle.tied_law.proofs.Start.{universal_tied}
+use Rattle.tree_theory.specs.Tied.{IsTied}
+use Rattle.tree_theory.proofs.Start.{universal_tied}
 use Rattle.pq_plain.proofs.plain.PlainReducer.new.Goals as goal
 
 pub returns-clause-tied : goal.returns-clause-tied

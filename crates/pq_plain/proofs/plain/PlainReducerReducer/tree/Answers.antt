@@ -1,5 +1,5 @@
 use Rattle.std.proofs.lemmas.Result.{IfOk-weaker}
-use Rattle.tied_law.proofs.Turn.{turned_tied}
+use Rattle.tree_theory.proofs.Turn.{turned_tied}
 use Rattle.pq_plain.specs.Plain.{plain_columns, plain_outline}
 use Rattle.pq_plain.proofs.plain.PlainReducerReducer.tree.Goals as goal
 

@@ -1,8 +1,8 @@
 use Rattle.std.proofs.Common.{◌≡◌, ℕ, ◌+◌, ◌*◌, ◌≤◌, List, length, sym, ap, subst, ◌∙◌}
 use Rattle.std.specs.List.{length_refill}
-use Rattle.template_theory.specs.Reduced.{IsReduced}
-use Rattle.template_theory.specs.Frugal.{IsFrugal}
-use Rattle.template_theory.specs.declared.reducer.Step.TheVariants.{Taken}
+use Rattle.tree_theory.specs.Reduced.{IsReduced}
+use Rattle.tree_theory.specs.Frugal.{IsFrugal}
+use Rattle.tree_theory.specs.declared.reducer.Step.TheVariants.{Taken}
 use Rattle.row_model.specs.Graph.{row_at}
 use Rattle.arena_model.specs.Layout.{Layout}
 use Rattle.arena_model.specs.NamedTree.{outline_at}
@@ -11,7 +11,7 @@ use Rattle.pq_tree.specs.Proper.{IsProper}
 use Rattle.pq_tree.proofs.Equivalent.{tree_from_proper}
 use Rattle.pq_arena.specs.RowNodes.{column_leaves}
 use Rattle.full_pass.specs.Answer.{IsRowKept}
-use Rattle.tied_law.specs.Tied.{IsTied}
+use Rattle.tree_theory.specs.Tied.{IsTied}
 use Rattle.row_reduce.specs.InPlace.{IsInPlace}
 use Rattle.row_reduce.proofs.Frugality.{row_frugal}
 use Rattle.row_reduce.proofs.InPlace.{row_in_place}

@@ -2,7 +2,7 @@ use Rattle.std.proofs.Common.{◌-◌, take, sym, subst}
 use Rattle.column_order.specs.Orders.{HasValidOrder}
 use Rattle.row_model.specs.Graph.{HasConflict}
 use Rattle.arena_model.specs.NamedTree.{outline_at}
-use Rattle.tied_law.specs.Tied.{IsTied}
+use Rattle.tree_theory.specs.Tied.{IsTied}
 use Rattle.row_reduce.proofs.Taking.{next_rows}
 use Rattle.row_reduce.proofs.reducer.ArenaReducer.reduce_row.Goals as goal
 

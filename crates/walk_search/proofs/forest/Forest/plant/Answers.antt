@@ -1,7 +1,7 @@
 use Rattle.std.proofs.Common.{◌≡◌, length, arith}
 use Rattle.std.proofs.lemmas.Grind.{common_steps}
 use Rattle.walk_search.specs.Search.{pair_of_node}
-use Rattle.pair_classes.proofs.NumberLaws.{indexed_few}
+use Rattle.odd_cycle.proofs.NumberLaws.{indexed_few}
 use Rattle.walk_search.proofs.forest.Forest.plant.Goals as goal
 
 pub overflow_cast-root : goal.overflow_cast-root

@@ -3,7 +3,7 @@ use Rattle.std.proofs.lemmas.Option.{slice_get_within, get_or_from_slice_get}
 use Rattle.std.proofs.lemmas.Result.{IfOk-from_err}
 use Rattle.row_model.specs.declared.graph.Pair.{Pair}
 use Rattle.row_model.specs.Graph.{IsPair}
-use Rattle.pair_classes.specs.Numbers.{Numbering, IsIndexed, number_of}
+use Rattle.odd_cycle.specs.Numbers.{Numbering, IsIndexed, number_of}
 use Rattle.walk_search.specs.declared.forest.Node.{Node}
 use Rattle.walk_search.specs.Search.{pair_of_node}
 use Rattle.walk_search.proofs.forest.Forest.reach.Goals as goal

@@ -1,0 +1,11 @@
+pub mod Chosen
+pub mod Errors
+pub mod Faults
+pub mod RealShelf
+pub mod RealSink
+pub mod Shelf
+pub mod Sink
+pub mod Source
+pub mod Taken
+pub mod Through
+pub mod Whole

@@ -1,6 +1,0 @@
-use Rattle.std.proofs.Common.{◌≡◌, ◌+◌}
-use Rattle.row_model.specs.Rows.{IsRow}
-use Rattle.incompat_graph.proofs.part.row_of.Given as goal
-
-abbrev pub invariant-loop-i : goal.invariant-loop-i
-invariant-loop-i g l = record { row : IsRow l.i l.row.items; ticks : l.steps ≡ l.fn.steps + l.i }

@@ -1,4 +1,0 @@
-use Rattle.incompat_graph.proofs.tests.is_cycle.Given as goal
-
-abbrev pub ghosts-checked_counted : goal.ghosts-checked_counted
-ghosts-checked_counted a = record { name = a.blank.name; parts = a.blank.parts }

@@ -1,4 +1,0 @@
-use Rattle.pq_io.proofs.chosen.open_by.Goals as goal
-
-pub returns-clause-unread : goal.returns-clause-unread
-returns-clause-unread g c = c.of.ensures.given

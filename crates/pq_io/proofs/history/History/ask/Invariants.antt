@@ -1,5 +1,0 @@
-use Rattle.pq_io.specs.Taken.{asked_for}
-use Rattle.pq_io.proofs.history.History.ask.Given as goal
-
-abbrev pub ghost-becomes : goal.ghost-becomes
-ghost-becomes a = asked_for a._bytes.now a.self.now.files

@@ -1,8 +1,0 @@
-use Rattle.std.proofs.KnownBytes.{Keeps-refl, Keeps-trans}
-use Rattle.pq_io.proofs.retried.flush_retried.Goals as goal
-
-pub loop-init : goal.loop-init
-loop-init g c = Keeps-refl _
-
-pub loop-preserved : goal.loop-preserved
-loop-preserved g c = Keeps-trans _ _ _ c.loop.invariant c.flush.ensures.bytes

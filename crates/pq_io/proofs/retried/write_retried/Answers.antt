@@ -1,5 +1,0 @@
-use Rattle.std.proofs.KnownBytes.{Keeps-refl}
-use Rattle.pq_io.proofs.retried.write_retried.Goals as goal
-
-pub loop-init : goal.loop-init
-loop-init g c = Keeps-refl _

@@ -1,5 +1,0 @@
-use Rattle.reply_laws.proofs.Meetings.{status_law, text_law}
-use Rattle.reply_laws.proofs.meet.meet_law.Goals as goal
-
-pub returns : goal.returns
-returns c = let file_law = c.tree_file_law.ensures.read in record { status = status_law file_law; text = text_law file_law }

@@ -1,5 +1,0 @@
-use Rattle.template_theory.proofs.Steps.{kept, decided, reduce_refused, exists}
-use Rattle.template_theory.proofs.laws.reduce_law.Goals as goal
-
-pub returns : goal.returns
-returns c = record { kept = kept; decided = decided; refused = reduce_refused; exists = exists }

@@ -1,5 +1,0 @@
-use Rattle.template_theory.proofs.Turnable.{reduced_turned, root_turned, label_turned}
-use Rattle.template_theory.proofs.laws.turned_law.Goals as goal
-
-pub returns : goal.returns
-returns c = record { reduced = reduced_turned; root = root_turned; label = label_turned }

@@ -1,9 +1,0 @@
-pub mod Templates
-pub mod Labels
-pub mod Chosen
-pub mod Reduced
-pub mod Refused
-pub mod Outcomes
-pub mod Frugal
-pub mod Laws
-pub mod WeightLaws

@@ -1,0 +1,13 @@
+pub mod Tied
+pub mod TiedLaws
+pub mod CanonicalLaws
+pub mod Templates
+pub mod Labels
+pub mod Chosen
+pub mod Reduced
+pub mod Refused
+pub mod Outcomes
+pub mod Frugal
+pub mod Laws
+pub mod WeightLaws
+pub mod ExactLaws

@@ -1,5 +1,0 @@
-use Rattle.verdict_check.proofs.SameLists.{same_places}
-use Rattle.verdict_check.proofs.clones.same_places.Goals as goal
-
-pub returns : goal.returns
-returns c = same_places c.args.places.now c.args.others.now c.eq.result c.eq.ensures

@@ -1,5 +1,0 @@
-use Rattle.verdict_check.proofs.HoldsSteps.{share_p}
-use Rattle.verdict_check.proofs.holds.Children.over_p.Goals as goal
-
-pub returns : goal.returns
-returns c row ts h = share_p row ts c.args.self h

@@ -1,5 +1,0 @@
-use Rattle.verdict_check.proofs.HoldsExact.{holds_law, split_law}
-use Rattle.verdict_check.proofs.holds.holds_law.Goals as goal
-
-pub returns : goal.returns
-returns c = record { stretch = holds_law; split = split_law }
